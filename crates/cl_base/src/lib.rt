@@ -1,0 +1,22 @@
+//! The outside as a cluster sees it: sources, sinks and disks that count their faults. Beside it the lists, texts and
+//! entries that every layer hands on, and the limits of the product.
+#![tactic(auto)]
+
+mod disk;
+mod entry;
+mod fault;
+pub mod limits;
+mod list;
+mod memory;
+mod stream;
+mod text;
+mod through;
+
+pub use disk::{Choice, Disk};
+pub use entry::Entry;
+pub use fault::{Failed, MemberFault, NoMemory, Trouble};
+pub use list::{Bytes, List};
+pub use memory::{MemSink, MemSource};
+pub use stream::{Sink, Source};
+pub use text::Text;
+pub use through::{read_some, write_through};
