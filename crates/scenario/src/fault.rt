@@ -1,0 +1,78 @@
+// Why a text isn't a scenario, and what was read of it.
+use crate::Order;
+use cl_base::{List, NoMemory};
+
+/// Why a line is faulty. Of a line the first that applies, in this order, is named.
+#[derive(Clone, Copy, Debug, PartialEq, Eq)]
+pub enum Cause {
+    /// A byte outside 0x20 to 0x7e.
+    Byte,
+    /// More than 40,000 bytes.
+    LongLine,
+    /// The first word names no order.
+    UnknownOrder,
+    /// The number of the words, or the spelling of one.
+    Arguments,
+    /// A number outside its range, or two members that have to differ and don't.
+    Range,
+    /// Not the line that must come: `members`, then one to three of `service`, then the other orders.
+    Header,
+    /// More than 100,000 rounds so far.
+    Rounds,
+    /// An order that the program doesn't run yet. Reading gives it for no line.
+    NotBuilt,
+}
+
+impl Cause {
+    /// The cause as it is printed.
+    pub fn text(self) -> &'static str {
+        match self {
+            Cause::Byte => "byte",
+            Cause::LongLine => "long line",
+            Cause::UnknownOrder => "unknown order",
+            Cause::Arguments => "arguments",
+            Cause::Range => "range",
+            Cause::Header => "header",
+            Cause::Rounds => "rounds",
+            Cause::NotBuilt => "not built",
+        }
+    }
+}
+
+/// The first faulty line, counted from 1, and its cause.
+#[derive(Clone, Copy, Debug, PartialEq, Eq)]
+pub struct Refusal {
+    /// Its number. Where the text ends before its header is whole, the number of lines plus 1.
+    pub line: u64,
+    pub cause: Cause,
+}
+
+/// What a text says.
+#[derive(Debug, Drop)]
+pub struct Reading {
+    /// The orders before the first faulty line.
+    pub orders: List<Order>,
+    /// The first faulty line, or None where the text is a scenario.
+    pub fault: Option<Refusal>,
+}
+
+/// Why a text gives no orders.
+#[derive(Clone, Copy, Debug, PartialEq, Eq)]
+pub enum ParseFault {
+    /// The text isn't a scenario: its first faulty line, and the cause.
+    Refused { line: u64, cause: Cause },
+    /// No memory was there.
+    NoMemory,
+}
+
+impl From<NoMemory> for ParseFault {
+    ghost use Rattle.scenario.specs.declared.fault.ParseFault.{ParseFault};
+    ghost use Rattle.scenario.specs.declared.fault.ParseFault.TheVariants.{NoMemory};
+    ghost use Rattle.std.specs.Prelude.{◌≡◌};
+
+    ghost from_gives = { λ _ e. e ≡ NoMemory };
+
+    fn from(_: NoMemory) -> Self {
+        ParseFault::NoMemory
+    }
+}
