@@ -2,6 +2,7 @@
 //! entries that every layer hands on, and the limits of the product.
 #![tactic(auto)]
 
+mod adapters;
 mod disk;
 mod entry;
 mod fault;
@@ -12,6 +13,7 @@ mod stream;
 mod text;
 mod through;
 
+pub use adapters::{ReadSource, WriteSink};
 pub use disk::{Choice, Disk};
 pub use entry::Entry;
 pub use fault::{Failed, MemberFault, NoMemory, Trouble};
