@@ -1,0 +1,4 @@
+pub mod Log
+pub mod Shape
+pub mod Quorum
+pub mod Durable
