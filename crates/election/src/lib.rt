@@ -1,0 +1,11 @@
+//! The election of one member: the rows of the protocol from INIT to the beginning of a reign or of a following, as a
+//! machine that takes no memory and knows nothing of the outside.
+#![tactic(auto)]
+
+mod event;
+mod heard;
+mod member;
+mod step;
+
+pub use event::{Decision, ElectionEvent};
+pub use member::{Election, Heard, State};
