@@ -22,3 +22,6 @@ pub use memory::{MemSink, MemSource};
 pub use stream::{Sink, Source};
 pub use text::Text;
 pub use through::{read_some, write_through};
+
+#[cfg(test)]
+mod tests;
