@@ -3,7 +3,9 @@
 #![tactic(auto)]
 
 mod fault;
+mod field;
 mod header;
 
 pub use fault::{Bad, BadCause, DecodeFault};
-pub use header::Header;
+pub use field::{get_i32, get_i64, get_u16, get_u32, put_i32, put_i64, put_u16, put_u32};
+pub use header::{HEADER_BYTES, Header, SCHEMA, aligned, read_header};
