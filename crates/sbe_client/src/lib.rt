@@ -1,0 +1,10 @@
+//! The messages between clients and the cluster, and their bytes. What a client sends is read leniently: a newer
+//! schema's longer blocks and further fields are skipped.
+#![tactic(auto)]
+
+mod egress;
+mod ingress;
+mod write;
+
+pub use egress::{Egress, encode_egress};
+pub use ingress::{Ingress, encode_ingress};
