@@ -2,3 +2,4 @@ pub mod Log
 pub mod Shape
 pub mod Quorum
 pub mod Durable
+pub mod Index

@@ -16,6 +16,9 @@ entry_shape e = record { term = e.term; len = length e.bytes }
 abbrev pub shape_of : Log → Shape
 shape_of log = map entry_shape log
 
+abbrev pub lens_of : Shape → List ℕ
+lens_of xs = map (λ (x : EntryShape). x.len) xs
+
 -- the place of a log of this shape that is written from place p
 abbrev pub end_from : ℕ → Shape → ℕ
 end_from p [] = p

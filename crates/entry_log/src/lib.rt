@@ -2,8 +2,10 @@
 //! log that answers from its ends and terms without the entries' bytes.
 #![tactic(auto)]
 
+mod index;
 mod name;
 mod places;
 
+pub use index::LogIndex;
 pub use name::{LogName, better};
 pub use places::{end_after, place};

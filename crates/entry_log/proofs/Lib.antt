@@ -1,0 +1,4 @@
+pub mod Indexed
+pub mod Searched
+pub mod PlaceLemmas
+pub mod Terms
