@@ -1,10 +1,16 @@
 // What clients send to the cluster.
-ghost use Rattle.std.specs.Prelude.{◌≡◌, IfOk};
+ghost use Rattle.std.specs.Prelude.{◌≡◌, ◌↔◌, ◌⊎◌, Some, None, Ok, Err, IfOk};
+ghost use Rattle.wire_prims.specs.Fields.{u16_at};
+ghost use Rattle.wire_prims.specs.declared.fault.Bad.{Bad};
+ghost use Rattle.wire_prims.specs.declared.fault.DecodeFault.{DecodeFault};
+ghost use Rattle.sbe_client.specs.Reading.{ReadsIngress, first_fault_ingress, IsWhole};
 ghost use Rattle.sbe_client.specs.Spelling.{ingress_spelling_of, HasIngressSpelling, session_spelling};
 
+use crate::check::{Direction, block_end, check, variable};
 use crate::write::{begin, push_i32, push_i64, push_variable};
 use cl_base::{Bytes, NoMemory};
 use std::alloc::Global;
+use wire_prims::{DecodeFault, get_i32, get_i64};
 
 /// A message of a client to the cluster.
 #[derive(Debug, Drop)]
@@ -82,4 +88,45 @@ fn of_session(alloc: Global, template: u16, term: i64, session: i64) -> Result<B
     push_i64(&mut out, term)?;
     push_i64(&mut out, session)?;
     Ok(Bytes::from_vec(out))
+}
+
+/// The message that the bytes read as. A newer schema's surplus is skipped, and so are the stamp of a message and the
+/// version and the credentials of a connect.
+#[tactic(auto, unfolding(crate::specs::Reading::first_fault_ingress))]
+pub fn decode_ingress(alloc: Global, bytes: &[u8]) -> Result<Ingress, DecodeFault>
+    ensures read { IfOk result (λ m. ReadsIngress bytes.now m) }
+    ensures only { (m : Ingress) → ReadsIngress bytes.now m → (result ≡ Ok m) ⊎ (result ≡ Err DecodeFault.NoMemory) }
+    ensures bad { (bad : Bad) → (result ≡ Err (DecodeFault.Bad bad)) ↔ (first_fault_ingress bytes.now ≡ Some bad) }
+{
+    let template = check(bytes, Direction::ToCluster)?;
+    Ok(read_ingress(alloc, bytes, template)?)
+}
+
+/// What a message that is all there says.
+fn read_ingress(alloc: Global, bytes: &[u8], template: u16) -> Result<Ingress, NoMemory>
+    requires template { template ≡ u16_at 2 bytes.now }
+    requires whole { IsWhole Direction.ToCluster bytes.now }
+    ensures { IfOk result (λ m. ReadsIngress bytes.now m) }
+{
+    let end = block_end(bytes);
+    match template {
+        1 => Ok(Ingress::Message {
+            term: get_i64(bytes, 8),
+            session: get_i64(bytes, 16),
+            payload: Bytes::of(alloc, &bytes[end..])?,
+        }),
+        3 => Ok(Ingress::Connect {
+            corr: get_i64(bytes, 8),
+            stream: get_i32(bytes, 16),
+            channel: variable(alloc, bytes, end)?,
+        }),
+        4 => Ok(Ingress::Close {
+            term: get_i64(bytes, 8),
+            session: get_i64(bytes, 16),
+        }),
+        _ => Ok(Ingress::KeepAlive {
+            term: get_i64(bytes, 8),
+            session: get_i64(bytes, 16),
+        }),
+    }
 }

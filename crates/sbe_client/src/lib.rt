@@ -2,9 +2,10 @@
 //! schema's longer blocks and further fields are skipped.
 #![tactic(auto)]
 
+mod check;
 mod egress;
 mod ingress;
 mod write;
 
-pub use egress::{Egress, encode_egress};
-pub use ingress::{Ingress, encode_ingress};
+pub use egress::{Egress, decode_egress, encode_egress};
+pub use ingress::{Ingress, decode_ingress, encode_ingress};
