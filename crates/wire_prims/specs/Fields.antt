@@ -1,5 +1,5 @@
 -- Numbers in bytes, the lowest byte first, and what is known of a number that stands at a place.
-use Rattle.std.proofs.Common.{◌≡◌, inl, inr, ℕ, suc, ltb, ◌+◌, ◌-◌, ◌<◌, ◌≤◌, ◌^◌, ℤ, pos, negsuc, List, ◌++◌, length, take, drop, get_or, refl, sym, ◌∙◌, ap, arith, append_assoc, w16, w32, w64}
+use Rattle.std.proofs.Common.{drop-drop, take-append-drop, ◌≡◌, inl, inr, ℕ, suc, ltb, ◌+◌, ◌-◌, ◌<◌, ◌≤◌, ◌^◌, ℤ, pos, negsuc, List, ◌++◌, length, take, drop, get_or, refl, sym, ◌∙◌, ap, arith, append_assoc, w16, w32, w64}
 use Rattle.std.specs.Int.{Width, from_le_bytes, to_le_bytes, cast_signed, cast_unsigned, byte_len}
 use Rattle.std.specs.Int.RustNames.{FitsSigned}
 use Rattle.std.proofs.Math.Seq.{take-add}
@@ -116,14 +116,21 @@ module _ (w : Width) (limit : ℕ) (wide : IsWide w limit) where
   number-below : (at : ℕ) (bytes : List ℕ) → IsBytes bytes → number_at at bytes < limit
   number-below at bytes fits = wide.below (drop at bytes) (bytes_drop at bytes fits)
 
-  -- the bytes up to a number and the bytes of the number are the bytes up to its end
-  take-number : (at : ℕ) (bytes : List ℕ) → IsBytes bytes → at + byte_len w ≤ length bytes → take at bytes ++ to_le_bytes w (number_at at bytes) ≡ take (at + byte_len w) bytes
-  take-number at bytes fits inside =
+  spelled : (at : ℕ) (bytes : List ℕ) → IsBytes bytes → at + byte_len w ≤ length bytes → to_le_bytes w (number_at at bytes) ≡ take (byte_len w) (drop at bytes)
+  spelled at bytes fits inside =
       let front = take (byte_len w) (drop at bytes) in
       let len : length front ≡ byte_len w = omega (arith, length-take (byte_len w) (drop at bytes), length-drop at bytes) in
       let value : from_le_bytes w front ≡ number_at at bytes = wide.same front (drop at bytes) (λ k below. get_or-take (byte_len w) (drop at bytes) k 0 below) in
-      let spelled : to_le_bytes w (number_at at bytes) ≡ front = ap (to_le_bytes w) (sym value) ∙ wide.back front len (bytes_take (byte_len w) (drop at bytes) (bytes_drop at bytes fits)) in
-      ap (λ l. take at bytes ++ l) spelled ∙ sym (take-add at (byte_len w) bytes)
+      ap (to_le_bytes w) (sym value) ∙ wide.back front len (bytes_take (byte_len w) (drop at bytes) (bytes_drop at bytes fits))
+
+  -- the bytes of a number and the bytes behind it are the bytes from its place on
+  number-drop : (at : ℕ) (bytes : List ℕ) → IsBytes bytes → at + byte_len w ≤ length bytes → to_le_bytes w (number_at at bytes) ++ drop (at + byte_len w) bytes ≡ drop at bytes
+  number-drop at bytes fits inside =
+      ap (λ l. l ++ drop (at + byte_len w) bytes) (spelled at bytes fits inside) ∙ ap (λ l. take (byte_len w) (drop at bytes) ++ l) (sym (drop-drop (byte_len w) at bytes)) ∙ take-append-drop (byte_len w) (drop at bytes)
+
+  -- the bytes up to a number and the bytes of the number are the bytes up to its end
+  take-number : (at : ℕ) (bytes : List ℕ) → IsBytes bytes → at + byte_len w ≤ length bytes → take at bytes ++ to_le_bytes w (number_at at bytes) ≡ take (at + byte_len w) bytes
+  take-number at bytes fits inside = ap (λ l. take at bytes ++ l) (spelled at bytes fits inside) ∙ sym (take-add at (byte_len w) bytes)
 
   number-overwritten : (at n : ℕ) (file : List ℕ) → n < limit → at ≤ length file → number_at at (overwritten at (to_le_bytes w n) file) ≡ n
   number-overwritten at n file fits le =
@@ -158,6 +165,11 @@ pub take-u16_at : (at : ℕ) (bytes : List ℕ) → IsBytes bytes → at + 2 ≤
 unfolding u16_at le16
 take-u16_at at bytes fits inside = take-number w16 (2 ^ 16) wide16 at bytes fits inside
 
+-- the bytes of a number and the bytes behind it are the bytes from its place on
+pub u16_at-drop : (at : ℕ) (bytes : List ℕ) → IsBytes bytes → at + 2 ≤ length bytes → le16 (u16_at at bytes) ++ drop (at + 2) bytes ≡ drop at bytes
+unfolding u16_at le16
+u16_at-drop at bytes fits inside = number-drop w16 (2 ^ 16) wide16 at bytes fits inside
+
 pub u16_at-overwritten : (at n : ℕ) (file : List ℕ) → n < 2 ^ 16 → at ≤ length file → u16_at at (overwritten at (le16 n) file) ≡ n
 unfolding u16_at le16
 u16_at-overwritten at n file fits le = number-overwritten w16 (2 ^ 16) wide16 at n file fits le
@@ -191,6 +203,11 @@ pub take-u32_at : (at : ℕ) (bytes : List ℕ) → IsBytes bytes → at + 4 ≤
 unfolding u32_at le32
 take-u32_at at bytes fits inside = take-number w32 (2 ^ 32) wide32 at bytes fits inside
 
+-- the bytes of a number and the bytes behind it are the bytes from its place on
+pub u32_at-drop : (at : ℕ) (bytes : List ℕ) → IsBytes bytes → at + 4 ≤ length bytes → le32 (u32_at at bytes) ++ drop (at + 4) bytes ≡ drop at bytes
+unfolding u32_at le32
+u32_at-drop at bytes fits inside = number-drop w32 (2 ^ 32) wide32 at bytes fits inside
+
 pub u32_at-overwritten : (at n : ℕ) (file : List ℕ) → n < 2 ^ 32 → at ≤ length file → u32_at at (overwritten at (le32 n) file) ≡ n
 unfolding u32_at le32
 u32_at-overwritten at n file fits le = number-overwritten w32 (2 ^ 32) wide32 at n file fits le
@@ -223,6 +240,11 @@ u64_at-below at bytes fits = number-below w64 (2 ^ 64) wide64 at bytes fits
 pub take-u64_at : (at : ℕ) (bytes : List ℕ) → IsBytes bytes → at + 8 ≤ length bytes → take at bytes ++ le64 (u64_at at bytes) ≡ take (at + 8) bytes
 unfolding u64_at le64
 take-u64_at at bytes fits inside = take-number w64 (2 ^ 64) wide64 at bytes fits inside
+
+-- the bytes of a number and the bytes behind it are the bytes from its place on
+pub u64_at-drop : (at : ℕ) (bytes : List ℕ) → IsBytes bytes → at + 8 ≤ length bytes → le64 (u64_at at bytes) ++ drop (at + 8) bytes ≡ drop at bytes
+unfolding u64_at le64
+u64_at-drop at bytes fits inside = number-drop w64 (2 ^ 64) wide64 at bytes fits inside
 
 pub u64_at-overwritten : (at n : ℕ) (file : List ℕ) → n < 2 ^ 64 → at ≤ length file → u64_at at (overwritten at (le64 n) file) ≡ n
 unfolding u64_at le64
@@ -263,6 +285,10 @@ pub take-i32_at : (at : ℕ) (bytes : List ℕ) → IsBytes bytes → at + 4 ≤
 unfolding i32_at signed32
 take-i32_at at bytes fits inside = ap (λ n. take at bytes ++ le32 n) (of_z-to_z w32 (u32_at at bytes) (u32_at-below at bytes fits)) ∙ take-u32_at at bytes fits inside
 
+pub i32_at-drop : (at : ℕ) (bytes : List ℕ) → IsBytes bytes → at + 4 ≤ length bytes → signed32 (i32_at at bytes) ++ drop (at + 4) bytes ≡ drop at bytes
+unfolding i32_at signed32
+i32_at-drop at bytes fits inside = ap (λ n. le32 n ++ drop (at + 4) bytes) (of_z-to_z w32 (u32_at at bytes) (u32_at-below at bytes fits)) ∙ u32_at-drop at bytes fits inside
+
 pub i32_at-overwritten : (at : ℕ) (z : ℤ) (file : List ℕ) → FitsSigned w32 z → at ≤ length file → i32_at at (overwritten at (signed32 z) file) ≡ z
 unfolding i32_at signed32
 i32_at-overwritten at z file fits le = ap (cast_signed w32) (u32_at-overwritten at (cast_unsigned w32 z) file (unsigned32_below z fits) le) ∙ to_z-of_z w32 z fits
@@ -301,6 +327,10 @@ i64_at-fits at bytes fits = signed64_fits (u64_at at bytes) (u64_at-below at byt
 pub take-i64_at : (at : ℕ) (bytes : List ℕ) → IsBytes bytes → at + 8 ≤ length bytes → take at bytes ++ signed64 (i64_at at bytes) ≡ take (at + 8) bytes
 unfolding i64_at signed64
 take-i64_at at bytes fits inside = ap (λ n. take at bytes ++ le64 n) (of_z-to_z w64 (u64_at at bytes) (u64_at-below at bytes fits)) ∙ take-u64_at at bytes fits inside
+
+pub i64_at-drop : (at : ℕ) (bytes : List ℕ) → IsBytes bytes → at + 8 ≤ length bytes → signed64 (i64_at at bytes) ++ drop (at + 8) bytes ≡ drop at bytes
+unfolding i64_at signed64
+i64_at-drop at bytes fits inside = ap (λ n. le64 n ++ drop (at + 8) bytes) (of_z-to_z w64 (u64_at at bytes) (u64_at-below at bytes fits)) ∙ u64_at-drop at bytes fits inside
 
 pub i64_at-overwritten : (at : ℕ) (z : ℤ) (file : List ℕ) → FitsSigned w64 z → at ≤ length file → i64_at at (overwritten at (signed64 z) file) ≡ z
 unfolding i64_at signed64

@@ -1,5 +1,5 @@
 -- Strict messages: what such a message is made of, and the first fault of bytes that aren't one.
-use Rattle.std.specs.Prelude.{◌≡◌, ◌⊎◌, ℕ, ◌+◌, ◌-◌, ◌*◌, ◌/◌, ◌%◌, ◌^◌, ℤ, pos, negsuc, ◌+ℤ◌, ◌-ℤ◌, ◌≤ℤ◌, Bool, true, false, ◌&&◌, ◌||◌, ◌==◌, nat_le, int_le, if◌then◌else◌, List, [], ◌∷◌, ◌++◌, length, take, drop, Option, Some, None}
+use Rattle.std.specs.Prelude.{ℕ, ◌+◌, ◌-◌, ◌*◌, ◌/◌, ◌%◌, ◌^◌, ℤ, pos, negsuc, ◌+ℤ◌, ◌-ℤ◌, Bool, true, false, ◌&&◌, ◌||◌, ◌==◌, nat_le, int_le, if◌then◌else◌, List, [], ◌∷◌, ◌++◌, length, Option, Some, None}
 use Rattle.std.specs.Ordering.{int_eq}
 use Rattle.wire_prims.specs.Fields.{u16_at, u32_at, i32_at, i64_at, le16, le32, signed32, signed64}
 use Rattle.wire_prims.specs.Header.{bad}
@@ -8,7 +8,7 @@ use Rattle.wire_prims.specs.declared.fault.BadCause.TheVariants.{Short, Block, V
 use Rattle.wire_prims.specs.declared.strict.Field.{Field}
 use Rattle.wire_prims.specs.declared.strict.Field.TheVariants.{I64, I32}
 use Rattle.wire_prims.specs.declared.strict.Rule.{Rule}
-use Rattle.wire_prims.specs.declared.strict.Rule.TheVariants.{Wide, Narrow, Repeat, Sender, Service}
+use Rattle.wire_prims.specs.declared.strict.Rule.TheVariants.{Wide, Narrow, AnyWide, AnyNarrow, Repeat, Sender, Service}
 use Rattle.wire_prims.specs.declared.strict.Tail.{Tail}
 use Rattle.wire_prims.specs.declared.strict.Tail.TheVariants.{Nothing, Rest, Counted}
 
@@ -73,6 +73,8 @@ unless false b = Some b
 abbrev pub rule_size : Rule → ℕ
 rule_size (Wide low high) = 8
 rule_size (Narrow low high) = 4
+rule_size AnyWide = 8
+rule_size AnyNarrow = 4
 rule_size (Repeat back) = 8
 rule_size Sender = 8
 rule_size Service = 8
@@ -85,6 +87,8 @@ rules_size (r ∷ rs) = rule_size r + rules_size rs
 abbrev pub passes : Rule → ℕ → List ℕ → Bool
 passes (Wide low high) at bytes = int_le low (i64_at at bytes) && int_le (i64_at at bytes) high
 passes (Narrow low high) at bytes = int_le low (i32_at at bytes) && int_le (i32_at at bytes) high
+passes AnyWide at bytes = true
+passes AnyNarrow at bytes = true
 passes (Repeat back) at bytes = int_eq (i64_at at bytes) (i64_at (at - back) bytes)
 passes Sender at bytes = int_le (pos 1) (i64_at at bytes) || is_service_session (i64_at at bytes)
 passes Service at bytes = is_service_session (i64_at at bytes)

@@ -6,8 +6,10 @@ mod fault;
 mod field;
 mod header;
 mod strict;
+mod write;
 
 pub use fault::{Bad, BadCause, DecodeFault};
 pub use field::{get_i32, get_i64, get_u16, get_u32, put_i32, put_i64, put_u16, put_u32};
 pub use header::{HEADER_BYTES, Header, SCHEMA, aligned, read_header};
 pub use strict::{Field, Rule, Tail, strict_fault};
+pub use write::{message_of, put_counted};

@@ -27,6 +27,10 @@ pub enum Rule {
     Wide { low: i64, high: i64 },
     /// Four bytes, from `low` up to `high`.
     Narrow { low: i32, high: i32 },
+    /// Eight bytes, any value.
+    AnyWide,
+    /// Four bytes, any value.
+    AnyNarrow,
     /// Eight bytes, the same value as so many bytes before.
     Repeat { back: usize },
     /// Eight bytes: the session of a message, a client's, which is at least 1, or that of a service message.
@@ -52,7 +56,7 @@ impl Rule {
         ensures { result ≡ rule_size self.now }
     {
         match self {
-            Rule::Narrow { .. } => 4,
+            Rule::Narrow { .. } | Rule::AnyNarrow => 4,
             _ => 8,
         }
     }
@@ -71,6 +75,7 @@ impl Rule {
                 let value = get_i32(bytes, at);
                 low <= value && value <= high
             }
+            Rule::AnyWide | Rule::AnyNarrow => true,
             Rule::Repeat { back } => get_i64(bytes, at) == get_i64(bytes, at.saturating_sub(back)),
             Rule::Sender => {
                 let session = get_i64(bytes, at);
