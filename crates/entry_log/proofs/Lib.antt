@@ -1,4 +1,2 @@
 pub mod Indexed
 pub mod Searched
-pub mod PlaceLemmas
-pub mod Terms

@@ -8,7 +8,7 @@ use Rattle.entry_log.specs.Log.{end_after}
 use Rattle.entry_log.specs.Shape.{Shape, ends_by_from, terms_to, TermsRiseFrom}
 use Rattle.entry_log.specs.declared.index.Stop.{Stop}
 use Rattle.entry_log.specs.Index.{shape_at, EndsFrom}
-use Rattle.entry_log.proofs.PlaceLemmas.{end_after-up}
+use Rattle.entry_log.specs.PlaceLaws.{end_after-up}
 
 -- P from the second element on is P of the rest
 AllWithin-rest : {X : Type 0} (P : X → Type 0) (x : X) (xs : List X) (low high : ℕ) → AllWithin P (x ∷ xs) (suc low) (suc high) → AllWithin P xs low high

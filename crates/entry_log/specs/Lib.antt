@@ -3,3 +3,5 @@ pub mod Shape
 pub mod Quorum
 pub mod Durable
 pub mod Index
+pub mod PlaceLaws
+pub mod TermLaws

@@ -1,7 +1,7 @@
 use Rattle.std.proofs.Common.{sym, ap, subst, ◌≡◌, ◌≢◌, ◌∙◌, ℤ, negsuc, take, arith, to_z, of_z, w64}
 use Rattle.std.proofs.lemmas.Int.{ints}
 use Rattle.entry_log.specs.Shape.{last_term_of, end_of, terms_to}
-use Rattle.entry_log.proofs.Terms.{up_to_last_of-terms_to, end_of_term-none}
+use Rattle.entry_log.specs.TermLaws.{up_to_last_of-terms_to, end_of_term-none}
 use Rattle.entry_log.proofs.index.LogIndex.end_of_term.Goals as goal
 
 pub returns-then-term_at-term : goal.returns-then-term_at-term

@@ -5,24 +5,24 @@ use Rattle.std.proofs.lemmas.Int.{ints}
 use Rattle.entry_log.specs.Log.{same_term}
 use Rattle.entry_log.specs.Shape.{EntryShape, Shape, end_of, last_term_from, terms_to, has_term, up_to_last_of, end_of_term, TermsRiseFrom}
 
-choice : {X : Type 0} (P : X → Type 0) (b : Bool) (x y : X) → (b ≡ true → P x) → (b ≡ false → P y) → P (if b then x else y)
+pub choice : {X : Type 0} (P : X → Type 0) (b : Bool) (x y : X) → (b ≡ true → P x) → (b ≡ false → P y) → P (if b then x else y)
 choice P true x y f g = f refl
 choice P false x y f g = g refl
 
-or_right : (a b : Bool) → b ≡ true → (a || b) ≡ true
+pub or_right : (a b : Bool) → b ≡ true → (a || b) ≡ true
 or_right true b e = refl
 or_right false b e = e
 
-or_left : (a b : Bool) → a ≡ true → (a || b) ≡ true
+pub or_left : (a b : Bool) → a ≡ true → (a || b) ≡ true
 or_left a b e = ap (λ z. z || b) e
 
-or_false : (a b : Bool) → a ≡ false → b ≡ false → (a || b) ≡ false
+pub or_false : (a b : Bool) → a ≡ false → b ≡ false → (a || b) ≡ false
 or_false a b e f = ap (λ z. z || b) e ∙ f
 
-same : (a b : ℤ) → a ≡ b → same_term a b ≡ true
+pub same : (a b : ℤ) → a ≡ b → same_term a b ≡ true
 same a b e = let l : int_le a b ≡ true = grind (arith, ints, e) in let r : int_le b a ≡ true = grind (arith, ints, e) in ap (λ z. z && int_le b a) l ∙ r
 
-differ : (a b : ℤ) → b <ℤ a → same_term a b ≡ false
+pub differ : (a b : ℤ) → b <ℤ a → same_term a b ≡ false
 differ a b h = let l : int_le a b ≡ false = grind (arith, ints, h) in ap (λ z. z && int_le b a) l
 
 -- a term that is below a log's isn't in it
@@ -42,11 +42,11 @@ has_term-last u t (x ∷ xs) e = at (int_le x.term u) refl (has_term-last u x.te
     at true h more = or_right (same_term t u) (has_term u (x ∷ xs)) (more (rw h at e))
     at false h more = or_left (same_term t u) (has_term u (x ∷ xs)) (same t u (rw h at e))
 
-up_to_last_of-none : (u : ℤ) (xs : Shape) → has_term u xs ≡ false → up_to_last_of u xs ≡ []
+pub up_to_last_of-none : (u : ℤ) (xs : Shape) → has_term u xs ≡ false → up_to_last_of u xs ≡ []
 up_to_last_of-none u [] e = refl
 up_to_last_of-none u (x ∷ xs) e = rw e refl
 
-terms_to-none : (u : ℤ) (x : EntryShape) (xs : Shape) → int_le x.term u ≡ false → terms_to u (x ∷ xs) ≡ []
+pub terms_to-none : (u : ℤ) (x : EntryShape) (xs : Shape) → int_le x.term u ≡ false → terms_to u (x ∷ xs) ≡ []
 terms_to-none u x xs e = rw e refl
 
 -- and then all up to its last entry is what has terms up to u
@@ -63,11 +63,11 @@ up_to_last_of-terms_to u t (x ∷ xs) r e = at (int_le x.term u) refl (up_to_las
         let none : (same_term x.term u || has_term u xs) ≡ false = or_false (same_term x.term u) (has_term u xs) (differ x.term u high) (has_term-below u x.term xs r.1 high) in
         up_to_last_of-none u (x ∷ xs) none ∙ sym (terms_to-none u x xs h)
 
-last_term-low : (u t : ℤ) (xs : Shape) → TermsRiseFrom t xs → t ≤ℤ last_term_from t (terms_to u xs)
+pub last_term-low : (u t : ℤ) (xs : Shape) → TermsRiseFrom t xs → t ≤ℤ last_term_from t (terms_to u xs)
 last_term-low u t [] r = omega (arith, ints)
 last_term-low u t (x ∷ xs) r = choice (λ (l : Shape). t ≤ℤ last_term_from t l) (int_le x.term u) (x ∷ terms_to u xs) [] (λ h. let a = r.0 in let b = last_term-low u x.term xs r.1 in omega (arith, ints, a, b)) (λ h. omega (arith, ints))
 
-last_term-high : (u t : ℤ) (xs : Shape) → t ≤ℤ u → last_term_from t (terms_to u xs) ≤ℤ u
+pub last_term-high : (u t : ℤ) (xs : Shape) → t ≤ℤ u → last_term_from t (terms_to u xs) ≤ℤ u
 last_term-high u t [] h = h
 last_term-high u t (x ∷ xs) h = choice (λ (l : Shape). last_term_from t l ≤ℤ u) (int_le x.term u) (x ∷ terms_to u xs) [] (λ e. last_term-high u x.term xs (grind (arith, ints, e))) (λ e. h)
 

@@ -1,0 +1,6 @@
+pub mod Replication
+pub mod Places
+pub mod Prefixes
+pub mod Cuts
+pub mod Commits
+pub mod Batches
