@@ -1,0 +1,6 @@
+pub mod Result
+pub mod Lines
+pub mod Words
+pub mod Keywords
+pub mod Spelling
+pub mod Orders

@@ -1,6 +1,9 @@
 // Why a text isn't a scenario, and what was read of it.
+ghost use Rattle.std.specs.Prelude.{◌≡◌};
+
 use crate::Order;
 use cl_base::{List, NoMemory};
+use std::alloc::AllocFailed;
 
 /// Why a line is faulty. Of a line the first that applies, in this order, is named.
 #[derive(Clone, Copy, Debug, PartialEq, Eq)]
@@ -65,10 +68,37 @@ pub enum ParseFault {
     NoMemory,
 }
 
+/// Why a line gives no order.
+#[derive(Clone, Copy, Debug, PartialEq, Eq)]
+pub enum LineFault {
+    /// The line is faulty.
+    Faulty(Cause),
+    /// No memory was there.
+    NoMemory,
+}
+
+impl From<NoMemory> for LineFault {
+    ghost use Rattle.scenario.specs.declared.fault.LineFault.TheVariants.{NoMemory};
+
+    ghost from_gives = { λ _ e. e ≡ NoMemory };
+
+    fn from(_: NoMemory) -> Self {
+        LineFault::NoMemory
+    }
+}
+
+impl<T: Drop> From<AllocFailed<T>> for LineFault {
+    ghost use Rattle.scenario.specs.declared.fault.LineFault.TheVariants.{NoMemory};
+
+    ghost from_gives = { λ _ e. e ≡ NoMemory };
+
+    fn from(_: AllocFailed<T>) -> Self {
+        LineFault::NoMemory
+    }
+}
+
 impl From<NoMemory> for ParseFault {
-    ghost use Rattle.scenario.specs.declared.fault.ParseFault.{ParseFault};
     ghost use Rattle.scenario.specs.declared.fault.ParseFault.TheVariants.{NoMemory};
-    ghost use Rattle.std.specs.Prelude.{◌≡◌};
 
     ghost from_gives = { λ _ e. e ≡ NoMemory };
 

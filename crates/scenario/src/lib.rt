@@ -3,7 +3,15 @@
 #![tactic(auto)]
 
 mod fault;
+mod hex;
+mod keyword;
+mod lines;
 mod order;
+mod reader;
+mod spelling;
+mod told;
+mod words;
 
 pub use fault::{Cause, ParseFault, Reading, Refusal};
 pub use order::{Named, Order};
+pub use reader::{parse, read};
