@@ -1,22 +1,27 @@
--- What the orders so far tell.
-use Rattle.std.proofs.Common.{◌≡◌, ℕ, ◌+◌, List, [], ◌∷◌, ◌++◌, length, refl, ap, ◌∙◌, sym, arith, Some, None, Ok, Err, Option, Result, length-append, cond, Bool, true, false}
-use Rattle.std.specs.Prelude.{if◌then◌else◌, fold, sum_by, count_by}
-use Rattle.std.proofs.lemmas.List.Sums.{fold-append}
+-- Reading on, line by line.
+use Rattle.std.proofs.Common.{◌≡◌, ℕ, ◌+◌, List, [], ◌∷◌, length, refl, arith, Ok, Err, Bool, true}
+use Rattle.std.specs.Prelude.{◌==◌}
+use Rattle.std.proofs.lemmas.Bool.{eqb-true}
 use Rattle.scenario.specs.declared.fault.Cause.{Cause}
 use Rattle.scenario.specs.declared.order.Order.{Order}
-use Rattle.scenario.specs.declared.told.Told.{Told}
-use Rattle.scenario.specs.Result.{◌>>=◌}
-use Rattle.scenario.specs.Orders.{told_by, told_after, unless, is_service, members_after, rounds_in}
+use Rattle.scenario.specs.Lines.{lines}
+use Rattle.scenario.specs.Orders.{told_by, read_from, orders_after, refused_at, at_end}
 
--- what is told by one order more
-pub told_more : (before : List Order) (o : Order) → told_after (told_by before) o ≡ told_by (before ++ o ∷ [])
-told_more before o = simp (fold-append, length-append)
+pub nothing : (xs : List ℕ) → (length xs == 0) ≡ true → xs ≡ []
+nothing [] e = refl
+nothing (x ∷ xs) e = absurd (omega (arith, eqb-true (length (x ∷ xs)) 0 e))
 
--- a value that came through tells that no cause kept it
-pub came : {A : Type 0} (f : Option Cause) (o : A) (t : A → Told) (next : Told) → Ok next ≡ unless f (t o) → (unless f o >>= λ x. Ok (x, t x)) ≡ Ok (o, next)
-came None o t next e = cc
-came (Some c) o t next e = cc
+-- behind the last line
+pub read_done : (before : List Order) (n : ℕ) → read_from before n (lines []) ≡ record { orders = before; fault = at_end n (told_by before) }
+unfolding read_from lines
+read_done before n = refl
 
-pub kept_out : {A : Type 0} (f : Option Cause) (o : A) (t : A → Told) (c : Cause) → Err c ≡ unless f (t o) → (unless f o >>= λ x. Ok (x, t x)) ≡ Err c
-kept_out None o t c e = cc
-kept_out (Some d) o t c e = cc
+-- one line more
+pub read_step : (before after : List Order) (n : ℕ) (line : List ℕ) (rest : List (List ℕ)) → orders_after before n line ≡ Ok after → read_from before n (line ∷ rest) ≡ read_from after (n + 1) rest
+unfolding read_from
+read_step before after n line rest e = rw (e, read_from) refl
+
+-- the first faulty line
+pub read_fault : (before : List Order) (n : ℕ) (line : List ℕ) (rest : List (List ℕ)) (c : Cause) → orders_after before n line ≡ Err c → read_from before n (line ∷ rest) ≡ refused_at n c before
+unfolding read_from
+read_fault before n line rest c e = rw (e, read_from) refl

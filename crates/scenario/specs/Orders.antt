@@ -106,6 +106,10 @@ told_after told o = record { orders = told.orders + 1; members = members_after t
 unfoldable pub judged : Told → ℕ → List ℕ → Result Order Cause
 judged told n line = if not (list_all is_plain line) then Err Byte else (if nat_lt 40000 (length line) then Err LongLine else (spelled n line >>= λ o. unless (forbidden told o) o))
 
+-- the same, and what is told once that order has come
+abbrev pub judged_and_told : Told → ℕ → List ℕ → Result (Order × Told) Cause
+judged_and_told told n line = judged told n line >>= λ o. Ok (o, told_after told o)
+
 -- the orders once a line more has come, which a skipped one leaves
 unfoldable pub orders_after : List Order → ℕ → List ℕ → Result (List Order) Cause
 orders_after before n line = if is_skipped line then Ok before else (judged (told_by before) n line >>= λ o. Ok (before ++ o ∷ []))

@@ -1,9 +1,9 @@
 // A text, read line by line.
 ghost use Rattle.std.specs.Prelude.{◌≡◌, ◌<◌, ◌≤◌, ◌+◌, ◌^◌, ◌++◌, ◌∷◌, [], length, IfOk, IfErr, OnOk, OnErr, None, Ok};
-ghost use Rattle.scenario.specs.Result.{◌>>=◌, Gives, Fails};
+ghost use Rattle.scenario.specs.Result.{Gives, Fails};
 ghost use Rattle.std.specs.List.{list_all};
 ghost use Rattle.scenario.specs.Lines.{is_plain as plain};
-ghost use Rattle.scenario.specs.Orders.{judged, told_after, told_by, orders_after, reading_of, orders_of, first_fault, Refuses};
+ghost use Rattle.scenario.specs.Orders.{judged_and_told, told_by, orders_after, reading_of, orders_of, first_fault, Refuses};
 
 use crate::fault::{Cause, LineFault, ParseFault, Reading, Refusal};
 use crate::lines::{first_line, is_skipped};
@@ -26,7 +26,7 @@ fn is_plain(text: &[u8]) -> bool
 fn judge(alloc: Global, told: Told, line: u64, text: &[u8]) -> Result<(Order, Told), LineFault>
     requires orders { told.orders + 1 < 2 ^ 64 }
     requires services { told.services ≤ told.orders }
-    ensures { Gives result (judged told line text.now >>= λ o. Ok (o, told_after told o)) }
+    ensures { Gives result (judged_and_told told line text.now) }
 {
     if !is_plain(text) {
         return Err(LineFault::Faulty(Cause::Byte));
