@@ -1,7 +1,7 @@
 -- What a leader answers to a Canvass, what a follower keeps on the answer, and what it appends of a batch.
 use Rattle.std.specs.Prelude.{◌≡◌, ◌≢◌, ◌⊎◌, ℕ, ℤ, negsuc, ◌≤ℤ◌, ◌≤◌, true, ◌&&◌, [], ◌∷◌, length, take, nat_le, int_le, if◌then◌else◌, ⊤}
-use Rattle.entry_log.specs.Log.{Log, end_after, place, last, IsPrefixOf}
-use Rattle.entry_log.specs.Shape.{Shape, end_of, end_of_term, has_term}
+use Rattle.entry_log.specs.Log.{Log, end_after, place, last, IsPrefixOf, IsWritten, Rises}
+use Rattle.entry_log.specs.Shape.{Shape, end_of, end_of_term, has_term, shape_of}
 
 -- P13's sentence, over the shape of the leader's log: u is the greatest term at most f in it and e is that term's
 -- end, or they are -1 and 0 where it has no such term.
@@ -55,3 +55,20 @@ past p limit (x ∷ xs) = if nat_le (end_after p (length x.bytes)) limit then pa
 -- each prefix of the log is a prefix of what the reign of its last term wrote
 abbrev pub IsAnchored : (ℤ → Log) → Log → Type 0
 IsAnchored reign log = (xs : Log) → IsPrefixOf xs log → xs ≢ [] → IsPrefixOf xs (reign (last xs))
+
+-- u and e are what the leader's log answers to a Canvass of a follower with this log
+pub record IsAnswered (own leader : Log) (u : ℤ) (e : ℕ) : Type 0 where
+  pub own_written : IsWritten own
+  pub own_rises : Rises own
+  pub leader_written : IsWritten leader
+  pub leader_rises : Rises leader
+  pub term : u ≡ answer_term leader (last own)
+  pub end : e ≡ answer_end leader (last own)
+
+-- The first n entries have all that a follower's log of this shape has in common with its leader's, from the front.
+abbrev pub KeepsCommon : Shape → ℤ → ℕ → ℕ → Type 0
+KeepsCommon xs u e n = (own leader common : Log) → shape_of own ≡ xs → IsAnswered own leader u e → IsPrefixOf common own → IsPrefixOf common leader → IsPrefixOf common (take n own)
+
+-- Where their last term is u, they have nothing else, if both logs go back to the same reigns.
+abbrev pub KeepsNoMore : Shape → ℤ → ℕ → ℕ → Type 0
+KeepsNoMore xs u e n = (reign : ℤ → Log) (own leader : Log) → shape_of own ≡ xs → IsAnswered own leader u e → ((t : ℤ) → IsWritten (reign t)) → IsAnchored reign own → IsAnchored reign leader → last (take n own) ≡ u → IsPrefixOf (take n own) leader

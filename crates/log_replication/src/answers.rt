@@ -2,7 +2,7 @@
 ghost use Rattle.std.specs.Prelude.{◌≡◌, ◌↔◌, take, length, IsTrue};
 ghost use Rattle.entry_log.specs.Log.{Log, last};
 ghost use Rattle.entry_log.specs.Shape.{shape_of, last_term_of};
-ghost use Rattle.log_replication.specs.Replication.{IsAnswer, IsKept, answer_term, answer_end, kept};
+ghost use Rattle.log_replication.specs.Replication.{IsAnswer, IsKept, answer_term, answer_end, kept, KeepsCommon, KeepsNoMore};
 
 use entry_log::LogIndex;
 
@@ -24,6 +24,8 @@ pub fn keep_for(index: &LogIndex, u: i64, e: u64) -> (u64, bool)
     ensures matched { IsTrue result.1 ↔ (last_term_of (take result.0 index.now) ≡ u) }
     ensures log { (log : Log) → shape_of log ≡ index.now → take result.0 log ≡ kept u e log }
     ensures log_matched { (log : Log) → shape_of log ≡ index.now → IsTrue result.1 ↔ (last (kept u e log) ≡ u) }
+    ensures common { KeepsCommon index.now u e result.0 }
+    ensures no_more { KeepsNoMore index.now u e result.0 }
 {
     let entries = index.entries_through(u).min(index.entries_to(e));
     (entries, index.term_at(entries) == u)

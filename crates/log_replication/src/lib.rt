@@ -3,7 +3,9 @@
 #![tactic(auto)]
 
 mod answers;
+mod batches;
 mod commits;
 
 pub use answers::{answer_canvass, keep_for};
+pub use batches::batch_len;
 pub use commits::{commit_after, quorum_position};

@@ -1,10 +1,11 @@
 use Rattle.std.proofs.Common.{◌≡◌, ◌∙◌, ◌≤◌, sym, ap, subst, arith, rules, ℤ, min, length, take, to_z, of_z, w64}
 use Rattle.std.proofs.lemmas.Int.{ints}
-use Rattle.entry_log.specs.Log.{last}
+use Rattle.entry_log.specs.Log.{last, IsPrefixOf, Log}
 use Rattle.entry_log.specs.Shape.{Shape, ends_by, terms_to}
-use Rattle.log_replication.specs.Replication.{IsKept, kept}
+use Rattle.log_replication.specs.Replication.{IsKept, kept, answer_term, answer_end}
 use Rattle.log_replication.proofs.Kept.{is_kept, kept_from-take, last_term_of-take}
 use Rattle.log_replication.proofs.answers.keep_for.Goals as goal
+use Rattle.log_replication.specs.Cuts.{keeps_common, keeps_matched}
 
 pub returns-clause-kept : goal.returns-clause-kept
 returns-clause-kept c =
@@ -35,3 +36,19 @@ returns-clause-log_matched c =
     λ log s.
     let l : last (kept c.args.u c.args.e log) ≡ c.term_at.result = ap last (sym (returns-clause-log c log s)) ∙ sym (last_term_of-take log c.args.index.now c.min-entries.result s) ∙ sym c.term_at.ensures in
     rw l (search rules)
+
+pub returns-clause-common : goal.returns-clause-common
+returns-clause-common c =
+    λ own leader common s a p q.
+    let kept_common : IsPrefixOf common (kept (answer_term leader (last own)) (answer_end leader (last own)) own) = keeps_common own leader common a.own_written a.own_rises a.leader_rises a.leader_written p q in
+    let same : kept (answer_term leader (last own)) (answer_end leader (last own)) own ≡ take c.min-entries.result own =
+    ap (λ (t : ℤ). kept t (answer_end leader (last own)) own) (sym a.term) ∙ ap (λ e. kept c.args.u e own) (sym a.end) ∙ sym (returns-clause-log c own s) in
+    subst (λ (l : Log). IsPrefixOf common l) same kept_common
+
+pub returns-clause-no_more : goal.returns-clause-no_more
+returns-clause-no_more c =
+    λ reign own leader s a w ao al e.
+    let same : kept (answer_term leader (last own)) (answer_end leader (last own)) own ≡ take c.min-entries.result own =
+    ap (λ (t : ℤ). kept t (answer_end leader (last own)) own) (sym a.term) ∙ ap (λ p. kept c.args.u p own) (sym a.end) ∙ sym (returns-clause-log c own s) in
+    subst (λ (l : Log). IsPrefixOf l leader) same
+    (keeps_matched reign own leader a.own_written a.leader_rises a.leader_written w ao al (ap last same ∙ e ∙ a.term))

@@ -1,0 +1,35 @@
+// How many entries go into one batch.
+ghost use Rattle.std.specs.Prelude.{◌≡◌, ◌≤◌, length};
+ghost use Rattle.log_replication.specs.Batches.{IsLongestBatch, segment_of, FollowsBatch};
+
+use cl_base::limits::{BATCH_BYTES, BATCH_ENTRIES, SEGMENT_BYTES};
+use entry_log::LogIndex;
+
+/// The segment in which an entry stands that ends at this place (bytes).
+fn segment_of(end: u64) -> u64
+    ensures { result ≡ segment_of end }
+{
+    end.saturating_sub(1) / SEGMENT_BYTES
+}
+
+/// How many entries the batch from entry `from` has: as many as make one batch, none where the log ends there.
+pub fn batch_len(index: &LogIndex, from: u64) -> u64
+    requires { from ≤ length index.now }
+    ensures longest { IsLongestBatch index.now from result }
+    ensures follows { FollowsBatch index.now from result }
+{
+    let limit = (index.entries() - from).min(BATCH_ENTRIES);
+    if limit == 0 {
+        return 0;
+    }
+    let segment = segment_of(index.end_at(from + 1));
+    let mut bytes = index.event_len(from);
+    for count in 1..limit {
+        bytes = bytes.saturating_add(index.event_len(from + count));
+        let next = segment_of(index.end_at(from + count + 1));
+        if bytes > BATCH_BYTES || next != segment {
+            return count;
+        }
+    }
+    limit
+}
