@@ -9,3 +9,6 @@ mod write;
 
 pub use egress::{Egress, decode_egress, encode_egress};
 pub use ingress::{Ingress, decode_ingress, encode_ingress};
+
+#[cfg(test)]
+mod tests;
