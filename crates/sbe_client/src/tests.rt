@@ -1,3 +1,6 @@
+ghost use Rattle.std.specs.Prelude.{◌≤◌};
+ghost use Rattle.sbe_client.specs.Spelling.{HasEgressSpelling};
+
 use super::*;
 use cl_base::Bytes;
 use std::alloc::{AllocError, Global};
@@ -139,64 +142,79 @@ fn ingress_is_read_leniently(rt: HostRuntime) -> Result<(), Fail> {
     Ok(())
 }
 
-#[test]
-fn egress_goes_both_ways(rt: HostRuntime) -> Result<(), Fail> {
-    let alloc = rt.alloc();
-    let event = |session, code| Egress::SessionEvent {
+fn event(session: i64, code: u8) -> Egress
+    requires { code ≤ 4 }
+    ensures { HasEgressSpelling result }
+{
+    Egress::SessionEvent {
         session,
         corr: 1,
         term: 0,
         leader: 0,
         code,
-    };
-    let hi = Bytes::of(alloc, b"hi").ok().ok_or("bytes")?;
+    }
+}
+
+/// Its bytes, and what they are decoded to.
+fn both_ways(alloc: Global, m: Egress) -> Result<(String, String), Fail>
+    requires { HasEgressSpelling m }
+{
+    let bytes = encode_egress(alloc, &m).ok().ok_or("bytes")?;
+    Ok((
+        hex(alloc, bytes.as_slice())?,
+        egress_text(alloc, bytes.as_slice())?,
+    ))
+}
+
+#[test]
+fn egress_goes_both_ways(rt: HostRuntime) -> Result<(), Fail> {
+    let alloc = rt.alloc();
+    let opened =
+        "200002006f000000010000000000000001000000000000000000000000000000000000000000000000000000";
+    let led =
+        "200002006f000000ffffffffffffffff01000000000000000000000000000000000000000200000000000000";
+    let closed =
+        "200002006f000000010000000000000001000000000000000000000000000000000000000400000000000000";
+    let (bytes, again) = both_ways(alloc, event(1, 0))?;
+    assert_eq!(rt;
+        (bytes.as_str(), again.as_str()),
+        (opened, "event 1 1 0 0 0")
+    );
+    let (bytes, again) = both_ways(alloc, event(-1, 2))?;
+    assert_eq!(rt; (bytes.as_str(), again.as_str()), (led, "event -1 1 0 0 2"));
+    let (bytes, again) = both_ways(alloc, event(1, 4))?;
+    assert_eq!(rt;
+        (bytes.as_str(), again.as_str()),
+        (closed, "event 1 1 0 0 4")
+    );
+    let payload = Bytes::of(alloc, b"hi").ok().ok_or("bytes")?;
     let echo = Egress::Message {
         term: 0,
         session: 1,
         stamp: 410,
-        payload: hi,
+        payload,
     };
+    let echoed = "180001006f000000000000000000000001000000000000009a010000000000006869";
+    let (bytes, again) = both_ways(alloc, echo)?;
+    assert_eq!(rt;
+        (bytes.as_str(), again.as_str()),
+        (echoed, "message 0 1 410 6869")
+    );
     let leads = Egress::NewLeader {
         term: 1,
         session: 1,
         leader: 1,
     };
-    for (m, want, again) in [
-        (
-            event(1, 0),
-            "200002006f000000010000000000000001000000000000000000000000000000000000000000000000000000",
-            "event 1 1 0 0 0",
-        ),
-        (
-            event(-1, 2),
-            "200002006f000000ffffffffffffffff01000000000000000000000000000000000000000200000000000000",
-            "event -1 1 0 0 2",
-        ),
-        (
-            event(1, 4),
-            "200002006f000000010000000000000001000000000000000000000000000000000000000400000000000000",
-            "event 1 1 0 0 4",
-        ),
-        (
-            echo,
-            "180001006f000000000000000000000001000000000000009a010000000000006869",
-            "message 0 1 410 6869",
-        ),
-        (
-            leads,
-            "140006006f000000010000000000000001000000000000000100000000000000",
-            "leader 1 1 1",
-        ),
-    ] {
-        let bytes = encode_egress(alloc, &m).ok().ok_or("bytes")?;
-        assert_eq!(rt; hex(alloc, bytes.as_slice())?.as_str(), want);
-        assert_eq!(rt; egress_text(alloc, bytes.as_slice())?.as_str(), again);
-    }
-    let wrong = bytes_of(
-        alloc,
-        "200002006f000000010000000000000001000000000000000000000000000000000000000500000000000000",
-    )?;
-    assert_eq!(rt; egress_text(alloc, &wrong)?.as_str(), "bad 36 Value");
+    let new_leader = "140006006f000000010000000000000001000000000000000100000000000000";
+    let (bytes, again) = both_ways(alloc, leads)?;
+    assert_eq!(rt;
+        (bytes.as_str(), again.as_str()),
+        (new_leader, "leader 1 1 1")
+    );
+    let sixth =
+        "200002006f000000010000000000000001000000000000000000000000000000000000000500000000000000";
+    let text = egress_text(alloc, &bytes_of(alloc, sixth)?)?;
+    assert_eq!(rt; text.as_str(), "bad 36 Value");
     Ok(())
 }
 
