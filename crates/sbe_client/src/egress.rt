@@ -8,10 +8,9 @@ ghost use Rattle.sbe_client.specs.Reading.{ReadsEgress, first_fault_egress, IsWh
 ghost use Rattle.sbe_client.specs.Spelling.{egress_spelling_of, HasEgressSpelling};
 
 use crate::check::{Direction, block_end, check};
-use crate::write::{begin, push_i32, push_i64, push_variable};
 use cl_base::{Bytes, NoMemory};
 use std::alloc::Global;
-use wire_prims::{Bad, BadCause, DecodeFault, get_i32, get_i64};
+use wire_prims::{Bad, BadCause, DecodeFault, Field, get_i32, get_i64, message_of, put_counted};
 
 /// A message of the cluster to a client.
 #[derive(Debug, Drop)]
@@ -59,13 +58,15 @@ pub fn encode_egress(alloc: Global, m: &Egress) -> Result<Bytes, NoMemory>
             leader,
             code,
         } => {
-            let mut out = begin(alloc, 32, 2, 4)?;
-            push_i64(&mut out, *session)?;
-            push_i64(&mut out, *corr)?;
-            push_i64(&mut out, *term)?;
-            push_i32(&mut out, *leader)?;
-            push_i32(&mut out, *code as i32)?;
-            push_variable(&mut out, &[])?;
+            let fields = [
+                Field::I64(*session),
+                Field::I64(*corr),
+                Field::I64(*term),
+                Field::I32(*leader),
+                Field::I32(*code as i32),
+            ];
+            let mut out = message_of(alloc, 2, &fields)?;
+            put_counted(&mut out, &[])?;
             Ok(Bytes::from_vec(out))
         }
         Egress::Message {
@@ -74,10 +75,8 @@ pub fn encode_egress(alloc: Global, m: &Egress) -> Result<Bytes, NoMemory>
             stamp,
             payload,
         } => {
-            let mut out = begin(alloc, 24, 1, payload.len())?;
-            push_i64(&mut out, *term)?;
-            push_i64(&mut out, *session)?;
-            push_i64(&mut out, *stamp)?;
+            let fields = [Field::I64(*term), Field::I64(*session), Field::I64(*stamp)];
+            let mut out = message_of(alloc, 1, &fields)?;
             out.extend_from_slice(payload.as_slice())?;
             Ok(Bytes::from_vec(out))
         }
@@ -86,11 +85,9 @@ pub fn encode_egress(alloc: Global, m: &Egress) -> Result<Bytes, NoMemory>
             session,
             leader,
         } => {
-            let mut out = begin(alloc, 20, 6, 4)?;
-            push_i64(&mut out, *term)?;
-            push_i64(&mut out, *session)?;
-            push_i32(&mut out, *leader)?;
-            push_variable(&mut out, &[])?;
+            let fields = [Field::I64(*term), Field::I64(*session), Field::I32(*leader)];
+            let mut out = message_of(alloc, 6, &fields)?;
+            put_counted(&mut out, &[])?;
             Ok(Bytes::from_vec(out))
         }
     }

@@ -7,10 +7,9 @@ ghost use Rattle.sbe_client.specs.Reading.{ReadsIngress, first_fault_ingress, Is
 ghost use Rattle.sbe_client.specs.Spelling.{ingress_spelling_of, HasIngressSpelling, session_spelling};
 
 use crate::check::{Direction, block_end, check, variable};
-use crate::write::{begin, push_i32, push_i64, push_variable};
 use cl_base::{Bytes, NoMemory};
 use std::alloc::Global;
-use wire_prims::{DecodeFault, get_i32, get_i64};
+use wire_prims::{DecodeFault, Field, get_i32, get_i64, message_of, put_counted};
 
 /// A message of a client to the cluster.
 #[derive(Debug, Drop)]
@@ -55,12 +54,10 @@ pub fn encode_ingress(alloc: Global, m: &Ingress) -> Result<Bytes, NoMemory>
             stream,
             channel,
         } => {
-            let mut out = begin(alloc, 16, 3, channel.len())?;
-            push_i64(&mut out, *corr)?;
-            push_i32(&mut out, *stream)?;
-            push_i32(&mut out, 0)?;
-            push_variable(&mut out, channel.as_slice())?;
-            push_variable(&mut out, &[])?;
+            let fields = [Field::I64(*corr), Field::I32(*stream), Field::I32(0)];
+            let mut out = message_of(alloc, 3, &fields)?;
+            put_counted(&mut out, channel.as_slice())?;
+            put_counted(&mut out, &[])?;
             Ok(Bytes::from_vec(out))
         }
         Ingress::Message {
@@ -68,10 +65,8 @@ pub fn encode_ingress(alloc: Global, m: &Ingress) -> Result<Bytes, NoMemory>
             session,
             payload,
         } => {
-            let mut out = begin(alloc, 24, 1, payload.len())?;
-            push_i64(&mut out, *term)?;
-            push_i64(&mut out, *session)?;
-            push_i64(&mut out, 0)?;
+            let fields = [Field::I64(*term), Field::I64(*session), Field::I64(0)];
+            let mut out = message_of(alloc, 1, &fields)?;
             out.extend_from_slice(payload.as_slice())?;
             Ok(Bytes::from_vec(out))
         }
@@ -84,10 +79,8 @@ pub fn encode_ingress(alloc: Global, m: &Ingress) -> Result<Bytes, NoMemory>
 fn of_session(alloc: Global, template: u16, term: i64, session: i64) -> Result<Bytes, NoMemory>
     ensures { IfOk result (λ bytes. bytes ≡ session_spelling template term session) }
 {
-    let mut out = begin(alloc, 16, template, 0)?;
-    push_i64(&mut out, term)?;
-    push_i64(&mut out, session)?;
-    Ok(Bytes::from_vec(out))
+    let fields = [Field::I64(term), Field::I64(session)];
+    Ok(Bytes::from_vec(message_of(alloc, template, &fields)?))
 }
 
 /// The message that the bytes read as. A newer schema's surplus is skipped, and so are the stamp of a message and the
