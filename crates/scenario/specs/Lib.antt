@@ -4,3 +4,4 @@ pub mod Words
 pub mod Keywords
 pub mod Spelling
 pub mod Orders
+pub mod Printing

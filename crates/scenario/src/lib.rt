@@ -7,6 +7,7 @@ mod hex;
 mod keyword;
 mod lines;
 mod order;
+mod printing;
 mod reader;
 mod spelling;
 mod told;
@@ -14,4 +15,8 @@ mod words;
 
 pub use fault::{Cause, ParseFault, Reading, Refusal};
 pub use order::{Named, Order};
+pub use printing::print;
 pub use reader::{parse, read};
+
+#[cfg(test)]
+mod tests;
