@@ -22,7 +22,7 @@ use Rattle.wire_prims.specs.Strict.{block_bytes, block_size, message, counted, i
 truth : (b : Bool) → b ≡ true → T b
 truth b e = subst T (sym e) tt
 
-true_from : (b : Bool) → T b → b ≡ true
+pub true_from : (b : Bool) → T b → b ≡ true
 true_from true t = refl
 true_from false t = absurd t
 
@@ -309,6 +309,20 @@ module _ (front : List ℕ) (at : ℕ) (len : length front ≡ at) where
       let far : length (front ++ le32 (length c)) ≡ at + 4 = omega (arith, length-append front (le32 (length c)), length-le32 (length c), len) in
       let rest : drop (at + 4) (front ++ counted c) ≡ c = ap (drop (at + 4)) regrouped ∙ drop_at (front ++ le32 (length c)) c (at + 4) far in
       ap (λ k. take k (drop (at + 4) (front ++ counted c))) (counted_length limit c fits) ∙ ap (take (length c)) rest ∙ take_all (length c) c (omega arith)
+
+-- where the bytes end, whose block ends at this place
+abbrev pub EndsAt : Tail → ℕ → List ℕ → Type 0
+EndsAt Nothing at bytes = length bytes ≡ at
+EndsAt (Rest limit) at bytes = Unit {0}
+EndsAt (Counted limit) at bytes = length bytes ≡ at + 4 + u32_at at bytes
+
+ends_at : (tail : Tail) (at : ℕ) (bytes : List ℕ) → at ≤ length bytes → tail_there tail at bytes ≡ true → tail_fault tail at bytes ≡ None → EndsAt tail at bytes
+ends_at Nothing at bytes inside there ends = omega (arith, leb-true (length bytes) at (unless_none (nat_le (length bytes) at) (bad at Trailing) ends))
+ends_at (Rest limit) at bytes inside there ends = tt
+ends_at (Counted limit) at bytes inside there ends = omega (arith, counted_there limit at bytes there, (counted_ends limit at bytes ends).1)
+
+pub strict_ends : (rules : List Rule) (tail : Tail) (bytes : List ℕ) → IsStrict rules tail bytes → EndsAt tail (8 + rules_size rules) bytes
+strict_ends rules tail bytes h = ends_at tail (8 + rules_size rules) bytes h.whole h.there h.ends
 
 -- ---- whole messages
 
