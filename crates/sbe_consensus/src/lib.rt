@@ -1,0 +1,6 @@
+//! The packets by which members agree, and their one spelling in bytes.
+#![tactic(auto)]
+
+mod packet;
+
+pub use packet::{Outgoing, Packet};
