@@ -5,3 +5,4 @@ pub mod Keywords
 pub mod Spelling
 pub mod Orders
 pub mod Printing
+pub mod Made

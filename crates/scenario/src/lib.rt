@@ -6,6 +6,7 @@ mod fault;
 mod hex;
 mod keyword;
 mod lines;
+mod making;
 mod order;
 mod printing;
 mod reader;
@@ -14,6 +15,7 @@ mod told;
 mod words;
 
 pub use fault::{Cause, ParseFault, Reading, Refusal};
+pub use making::make;
 pub use order::{Named, Order};
 pub use printing::print;
 pub use reader::{parse, read};

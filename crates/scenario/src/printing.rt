@@ -8,7 +8,7 @@ use cl_base::{Bytes, Choice, NoMemory};
 use std::alloc::{AllocError, Global};
 
 /// Puts a number, in decimal.
-fn put_number(out: &mut Vec<u8>, number: u64) -> Result<(), AllocError>
+pub fn put_number(out: &mut Vec<u8>, number: u64) -> Result<(), AllocError>
     ensures { OnOk result (out.new.items ≡ out.old.items ++ decimal number) }
 {
     let text = number.to_string(*out.allocator())?;

@@ -306,6 +306,20 @@ fn every_order_is_printed(rt: HostRuntime) -> Result<(), Fail> {
 }
 
 #[test]
+fn the_generated_scenario(rt: HostRuntime) -> Result<(), Fail> {
+    let want = "members 3\nservice echo\nservice ledger\nrounds 60\nconnect 0 0\nconnect 1 0\n\
+        connect 2 0\nconnect 3 0\nconnect 4 0\nrounds 5\nrounds 5\nstop 0\nrounds 300\nstart 0\n\
+        rounds 100\nsend 0 1 m0\nrounds 3\nrounds 10\n";
+    let one = make(rt.alloc(), 1)?;
+    assert_eq!(rt; one.as_slice(), want.as_bytes());
+    for n in [2, 11, 20_000] {
+        let text = make(rt.alloc(), n)?;
+        assert_eq!(rt; fault_of(rt.alloc(), text.as_slice())?, None, "{n}");
+    }
+    Ok(())
+}
+
+#[test]
 fn causes_are_spelled(rt: HostRuntime) {
     let table = [
         (Cause::Byte, "byte"),

@@ -1,0 +1,74 @@
+// The generated scenario.
+ghost use Rattle.std.specs.Prelude.{◌≡◌, ◌<◌, ◌≤◌, ◌^◌, ◌++◌, IfOk, OnOk};
+ghost use Rattle.scenario.specs.Made.{message_text, pause, message_step, half, made};
+
+use crate::printing::put_number;
+use cl_base::{Bytes, NoMemory};
+use std::alloc::{AllocError, Global};
+
+/// Three members and five clients.
+const HEAD: &str =
+    "members 3\nservice echo\nservice ledger\nrounds 60\nconnect 0 0\nconnect 1 0\nconnect 2 0\nconnect 3 0\nconnect 4 0\nrounds 5\n";
+
+/// The loss of the leader, and its return.
+const MIDDLE: &str = "rounds 5\nstop 0\nrounds 300\nstart 0\nrounds 100\n";
+
+/// Puts message `number`, to a member.
+fn put_message(out: &mut Vec<u8>, member: u64, number: u64) -> Result<(), AllocError>
+    ensures { OnOk result (out.new.items ≡ out.old.items ++ message_text member number) }
+{
+    out.extend_from_slice(b"send ")?;
+    put_number(out, number % 5)?;
+    out.push(b' ')?;
+    put_number(out, member)?;
+    out.extend_from_slice(b" m")?;
+    put_number(out, number)?;
+    out.push(b'\n')?;
+    Ok(())
+}
+
+/// Puts three rounds after a fifth message, and after the last before `end`.
+fn put_pause(out: &mut Vec<u8>, end: u64, number: u64) -> Result<(), AllocError>
+    requires { number < end }
+    ensures { OnOk result (out.new.items ≡ out.old.items ++ pause end number) }
+{
+    if (number + 1) % 5 == 0 || number + 1 == end {
+        return out.extend_from_slice(b"rounds 3\n");
+    }
+    Ok(())
+}
+
+/// Puts a message and the rounds after it.
+fn put_step(out: &mut Vec<u8>, member: u64, end: u64, number: u64) -> Result<(), AllocError>
+    requires { number < end }
+    ensures { OnOk result (out.new.items ≡ out.old.items ++ message_step member end number) }
+{
+    put_message(out, member, number)?;
+    put_pause(out, end, number)
+}
+
+/// Puts the messages from a number up to an end.
+fn put_half(out: &mut Vec<u8>, member: u64, from: u64, end: u64) -> Result<(), AllocError>
+    requires { from ≤ end }
+    ensures { OnOk result (out.new.items ≡ out.old.items ++ half member from end) }
+{
+    for number in from..end {
+        put_step(out, member, end, number)?;
+    }
+    Ok(())
+}
+
+/// The generated scenario of `n` messages, 1 to 20,000.
+#[tactic(auto, unfolding(crate::specs::Made::made))]
+pub fn make(alloc: Global, n: u64) -> Result<Bytes, NoMemory>
+    requires low { 1 ≤ n }
+    requires high { n ≤ 20000 }
+    ensures { IfOk result (λ text. text ≡ made n) }
+{
+    let mut out = Vec::from_slice(alloc, HEAD.as_bytes())?;
+    put_half(&mut out, 0, 0, n / 2)?;
+    out.extend_from_slice(MIDDLE.as_bytes())?;
+    put_half(&mut out, 1, n / 2, n)?;
+    out.extend_from_slice(b"rounds 10\n")?;
+    Ok(Bytes::from_vec(out))
+}
