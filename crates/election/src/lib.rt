@@ -6,6 +6,8 @@ mod event;
 mod heard;
 mod member;
 mod step;
+#[cfg(test)]
+mod tests;
 
 pub use event::{Decision, ElectionEvent};
 pub use member::{Election, Heard, State};

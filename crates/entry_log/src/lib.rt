@@ -5,6 +5,8 @@
 mod index;
 mod name;
 mod places;
+#[cfg(test)]
+mod tests;
 
 pub use index::LogIndex;
 pub use name::{LogName, better};

@@ -5,6 +5,8 @@
 mod answers;
 mod batches;
 mod commits;
+#[cfg(test)]
+mod tests;
 
 pub use answers::{answer_canvass, keep_for};
 pub use batches::batch_len;
