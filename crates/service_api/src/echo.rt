@@ -30,8 +30,6 @@ impl Service for Echo {
 
     ghost restored = { restored_echo };
 
-    ghost is_reached = { λ s. Unit {0} };
-
     fn start(alloc: Global) -> Result<Echo, NoMemory> {
         Ok(Echo { alloc })
     }
@@ -63,10 +61,4 @@ impl Service for Echo {
         let cause = BadCause::Trailing;
         Err(DecodeFault::Bad(Bad { place, cause }))
     }
-
-    ghost begins = { tt };
-
-    ghost goes_on = { λ s i e r. tt };
-
-    ghost restores = { λ s r. refl };
 }

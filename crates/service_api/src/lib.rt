@@ -3,9 +3,14 @@
 #![tactic(auto)]
 
 mod echo;
+mod ledger;
+mod number;
 mod output;
 mod service;
+mod shipped;
 
 pub use echo::Echo;
+pub use ledger::Ledger;
 pub use output::{Output, Outputs};
 pub use service::Service;
+pub use shipped::{Kind, Shipped};

@@ -1,6 +1,7 @@
 // What every service is.
 ghost use Rattle.std.specs.Prelude.{◌≡◌, ◌<◌, ◌^◌, ◌++◌, ℕ, List, length, Result, IfOk, OnOk, OnErr};
 ghost use Rattle.wire_prims.specs.declared.fault.Bad.{Bad};
+ghost use Rattle.sbe_events.specs.Spelling.{HasSpelling};
 ghost use Rattle.sbe_events.specs.declared.event.Event.{Event};
 ghost use Rattle.service_api.specs.declared.output.Output.{Output};
 ghost use Rattle.service_api.specs.Reading.{Reads};
@@ -27,9 +28,6 @@ pub trait Service: Sized {
     /// The state that bytes are the records of, or their first fault.
     ghost restored: { List ℕ → Result Self Bad };
 
-    /// Events can lead to this state.
-    ghost is_reached: { Self → Type 0 };
-
     /// The state before any event.
     fn start(alloc: Global) -> Result<Self, NoMemory>
         ensures { IfOk result (λ s. s ≡ first) };
@@ -37,6 +35,7 @@ pub trait Service: Sized {
     /// Applies the event at an index of the log, and puts what comes out behind `out`. Where no memory was there the
     /// state stays, and `out` may hold a part of what would have come out.
     fn apply(&mut self, index: u64, e: &Event, out: &mut Outputs) -> Result<(), NoMemory>
+        requires { HasSpelling e.now }
         ensures state { OnOk result (self.new ≡ (applied self.old index e.now).0) }
         ensures outputs { OnOk result (out.new ≡ out.old ++ (applied self.old index e.now).1) }
         ensures stays { OnErr result (self.new ≡ self.old) }
@@ -46,16 +45,9 @@ pub trait Service: Sized {
     fn records(&self) -> Result<Bytes, NoMemory>
         ensures value { IfOk result (λ b. b ≡ spelled self.now) }
         ensures short { length (spelled self.now) < 2 ^ 31 }
-        ensures reached { is_reached self.now };
+        ensures restores { restored (spelled self.now) ≡ Result.Ok self.now };
 
     /// The state of these records, or their first fault.
     fn from_records(alloc: Global, bytes: &[u8]) -> Result<Self, DecodeFault>
         ensures { Reads (restored bytes.now) result };
-
-    ghost begins: { is_reached first };
-
-    ghost goes_on: { (s : Self) (i : ℕ) (e : Event) → is_reached s → is_reached (applied s i e).0 };
-
-    /// Records restore the state.
-    ghost restores: { (s : Self) → is_reached s → restored (spelled s) ≡ Result.Ok s };
 }
