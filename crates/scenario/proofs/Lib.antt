@@ -1,3 +1,5 @@
 pub mod LineLaws
 pub mod NumberLaws
 pub mod OrderLaws
+pub mod Canonical
+pub mod CanonicalLines

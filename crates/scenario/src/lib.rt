@@ -5,6 +5,7 @@
 mod fault;
 mod hex;
 mod keyword;
+mod laws;
 mod lines;
 mod making;
 mod order;
