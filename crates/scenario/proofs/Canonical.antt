@@ -1,28 +1,21 @@
 -- Each value has one spelling: what a text spells is printed as that text.
-use Rattle.std.proofs.Common.{◌≡◌, ℕ, ◌<◌, ◌≤◌, ◌+◌, ◌-◌, ◌*◌, ◌/◌, ◌%◌, ◌^◌, min, Bool, true, false, not, List, [], ◌∷◌, ◌++◌, length, take, drop, get_or, refl, ap, ◌∙◌, sym, arith, inl, inr, Some, None, Option, Result, Ok, Err, subst, append_assoc, add-one}
-use Rattle.std.specs.Prelude.{position, nat_lt, nat_le, ◌==◌, ◌&&◌, find, codes, bytes_eq, flat_map, decimal}
-use Rattle.std.specs.List.{list_all, position_or_len}
+use Rattle.std.proofs.Common.{◌≡◌, ℕ, ◌<◌, ◌+◌, ◌-◌, ◌*◌, ◌/◌, ◌%◌, ◌^◌, min, true, not, List, [], ◌∷◌, ◌++◌, length, take, drop, get_or, refl, ap, ◌∙◌, sym, arith, inl, inr, Some, None, Option, Result, Ok, Err, subst, append_assoc, add-one}
+use Rattle.std.specs.Prelude.{position, nat_lt, nat_le, ◌==◌, ◌&&◌, flat_map, decimal}
+use Rattle.std.specs.List.{list_all}
 use Rattle.std.specs.Char.{is_ascii_digit}
 use Rattle.std.specs.Str.{all_ascii_digits}
 use Rattle.std.specs.Str.Parse.{digits_value}
-use Rattle.std.proofs.lemmas.Bool.{cases_Bool, and_parts, ltb-true, leb-true, ltb-false, eqb-true, eqb-false, le-ltb, lt-ltb}
+use Rattle.std.proofs.lemmas.Bool.{cases_Bool, and_parts, ltb-true, leb-true, eqb-true, le-ltb, lt-ltb}
 use Rattle.std.proofs.lemmas.Bool.Decides.{nat_tests}
 use Rattle.std.proofs.lemmas.Fmt.{decimal-digits_value}
 use Rattle.std.proofs.lemmas.Str.Parse.{tells_all_ascii_digits, numerals_by_value}
-use Rattle.std.proofs.lemmas.Slice.Eq.{bytes_eq-Decides}
 use Rattle.std.proofs.lemmas.List.Quantifiers.{position-Some}
 use Rattle.std.proofs.lemmas.List.{take-append-drop}
 use Rattle.std.proofs.Math.Seq.{drop-cons}
-use Rattle.cl_base.specs.declared.disk.Choice.{Choice}
-use Rattle.cl_base.specs.declared.disk.Choice.TheVariants.{Drop, Keep, Fill}
 use Rattle.scenario.specs.declared.fault.Cause.{Cause}
-use Rattle.scenario.specs.declared.order.Named.{Named}
-use Rattle.scenario.specs.declared.order.Named.TheVariants.{Echo, Ledger, Ticker}
-use Rattle.scenario.specs.declared.keyword.Keyword.{Keyword}
 use Rattle.scenario.specs.Result.{◌>>=◌}
-use Rattle.scenario.specs.Words.{is_space, cut_word, parted, is_numeral, number, word_and_rest, number_and_rest, two_numbers, two_and_rest, hex_digit, hex_byte, hex_pairs, hex, choice, named}
-use Rattle.scenario.specs.Keywords.{keyword_text, keywords, keyword_of}
-use Rattle.scenario.specs.Printing.{glyph, byte_text, hex_text, choice_text, name_text, two_text}
+use Rattle.scenario.specs.Words.{is_space, cut_word, parted, is_numeral, number, word_and_rest, number_and_rest, two_numbers, two_and_rest, hex_digit, hex_byte, hex_pairs}
+use Rattle.scenario.specs.Printing.{glyph, byte_text, two_text}
 
 -- what a chain that ended well went through
 pub bind_ok : {A B : Type 0} (r : Result A Cause) (f : A → Result B Cause) (y : B) → (r >>= f) ≡ Ok y → (x : A) × (r ≡ Ok x) × (f x ≡ Ok y)

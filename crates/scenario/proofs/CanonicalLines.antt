@@ -1,12 +1,10 @@
 -- A line that spells an order is that order's text.
-use Rattle.std.proofs.Common.{◌≡◌, ℕ, ◌<◌, ◌≤◌, ◌+◌, ◌-◌, ◌*◌, ◌/◌, ◌%◌, ◌^◌, Bool, true, false, not, List, [], ◌∷◌, ◌++◌, length, get_or, refl, ap, ◌∙◌, sym, arith, inl, inr, Some, None, Option, Result, Ok, Err, subst}
+use Rattle.std.proofs.Common.{◌≡◌, ℕ, ◌<◌, ◌≤◌, ◌-◌, ◌^◌, Bool, true, false, not, List, [], ◌∷◌, ◌++◌, length, get_or, refl, ap, ◌∙◌, sym, arith, inl, inr, Some, None, Option, Ok, subst}
 use Rattle.std.specs.Prelude.{nat_lt, nat_le, ◌==◌, ◌&&◌, find, codes, bytes_eq, flat_map, decimal}
-use Rattle.std.proofs.lemmas.Bool.{cases_Bool, and_parts, ltb-true, leb-true, ltb-false, eqb-true, eqb-false, le-ltb, lt-ltb}
-use Rattle.std.proofs.lemmas.Bool.Decides.{nat_tests}
+use Rattle.std.proofs.lemmas.Bool.{cases_Bool, and_parts, ltb-true, leb-true, eqb-true}
 use Rattle.std.proofs.lemmas.Slice.Eq.{bytes_eq-Decides}
 use Rattle.cl_base.specs.declared.disk.Choice.{Choice}
 use Rattle.cl_base.specs.declared.disk.Choice.TheVariants.{Drop, Keep, Fill}
-use Rattle.scenario.specs.declared.fault.Cause.{Cause}
 use Rattle.scenario.specs.declared.order.Order.{Order}
 use Rattle.scenario.specs.declared.order.Order.TheVariants as order
 use Rattle.scenario.specs.declared.order.Named.{Named}
@@ -17,8 +15,7 @@ use Rattle.scenario.specs.declared.keyword.Double.{Double}
 use Rattle.scenario.specs.declared.keyword.Double.TheVariants as double
 use Rattle.scenario.specs.declared.keyword.Keyword.{Keyword}
 use Rattle.scenario.specs.declared.keyword.Keyword.TheVariants as keyword
-use Rattle.scenario.specs.Result.{◌>>=◌}
-use Rattle.scenario.specs.Words.{cut_word, number, two_numbers, two_and_rest, hex_byte, hex_pairs, hex, choice, named}
+use Rattle.scenario.specs.Words.{cut_word, number, two_numbers, two_and_rest, hex_byte, hex, choice, named}
 use Rattle.scenario.specs.Keywords.{keyword_text, keywords, keyword_of}
 use Rattle.scenario.specs.Spelling.{single_order, double_order, send_of, sendhex_of, raw_of, fuse_of, replay_of, free_of, order_of, order_after, order_alone, order_by, spelled}
 use Rattle.scenario.specs.Orders.{in_range, is_within, is_addressed, is_link}

@@ -1,5 +1,5 @@
 -- What a line spells: an order, with numbers of any size.
-use Rattle.std.specs.Prelude.{ℕ, ◌+◌, ◌==◌, List, [], ◌∷◌, length, if◌then◌else◌, Option, Some, None, Result, Ok, Err, codes, bytes_eq}
+use Rattle.std.specs.Prelude.{ℕ, ◌==◌, List, length, if◌then◌else◌, Option, Some, None, Result, Ok, Err, codes, bytes_eq}
 use Rattle.scenario.specs.declared.fault.Cause.{Cause}
 use Rattle.scenario.specs.declared.fault.Cause.TheVariants.{UnknownOrder, Arguments}
 use Rattle.scenario.specs.declared.order.Order.{Order}
@@ -11,7 +11,7 @@ use Rattle.scenario.specs.declared.keyword.Double.TheVariants as double
 use Rattle.scenario.specs.declared.keyword.Keyword.{Keyword}
 use Rattle.scenario.specs.declared.keyword.Keyword.TheVariants as keyword
 use Rattle.scenario.specs.Result.{◌>>=◌}
-use Rattle.scenario.specs.Words.{cut_word, number, number_and_rest, two_numbers, two_and_rest, hex, choice, named}
+use Rattle.scenario.specs.Words.{cut_word, number, two_numbers, two_and_rest, hex, choice, named}
 use Rattle.scenario.specs.Keywords.{keyword_of}
 
 -- `send C M TEXT`: the text is all behind the third space, and not empty

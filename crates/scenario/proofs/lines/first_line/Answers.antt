@@ -1,4 +1,3 @@
-use Rattle.std.proofs.Common.{arith}
 use Rattle.scenario.proofs.LineLaws.{line_at, line_last}
 use Rattle.scenario.proofs.lines.first_line.Goals as goal
 

@@ -1,4 +1,4 @@
-use Rattle.std.proofs.Common.{◌≡◌, take, ◌++◌}
+use Rattle.std.proofs.Common.{◌≡◌, take}
 use Rattle.scenario.specs.Printing.{printed}
 use Rattle.scenario.proofs.printing.print.Given as goal
 

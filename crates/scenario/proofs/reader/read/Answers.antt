@@ -1,9 +1,6 @@
-use Rattle.std.proofs.Common.{arith, ◌≡◌, ap, ◌∙◌, sym, length, [], Some}
-use Rattle.scenario.specs.declared.fault.Cause.{Cause}
-use Rattle.scenario.specs.declared.fault.Reading.{Reading}
-use Rattle.scenario.specs.declared.order.Order.{Order}
+use Rattle.std.proofs.Common.{arith, ap, ◌∙◌, sym}
 use Rattle.scenario.specs.Lines.{lines}
-use Rattle.scenario.specs.Orders.{read_from, refused_at, reading_of}
+use Rattle.scenario.specs.Orders.{read_from}
 use Rattle.scenario.proofs.OrderLaws.{nothing, read_done, read_step, read_fault}
 use Rattle.scenario.proofs.reader.read.Goals as goal
 
