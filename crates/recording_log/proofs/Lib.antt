@@ -1,0 +1,9 @@
+pub mod BlockLemmas
+pub mod PlaceLemmas
+pub mod EveryLemmas
+pub mod HoldLemmas
+pub mod Run
+pub mod StrikeLemmas
+pub mod SetLemmas
+pub mod MountLemmas
+pub mod FaultLemmas

@@ -1,0 +1,5 @@
+pub mod Every
+pub mod Entries
+pub mod Valid
+pub mod Sets
+pub mod Steps
