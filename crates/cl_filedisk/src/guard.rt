@@ -57,7 +57,7 @@ impl Guard {
         ensures later { self.old.faults ≤ self.new.faults }
         ensures rose { Rose self.old.faults self.new.faults }
     {
-        self.faults = self.faults.saturating_add(1);
+        self.count_fault();
         self.burnt = true;
     }
 
