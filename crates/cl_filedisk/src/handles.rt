@@ -24,7 +24,8 @@ struct Opened<F> {
 pub struct Handles<R: Files> {
     rt: R,
     /// The folder's path, with a slash at its end.
-    folder: String,
+    path: String,
+    folder: R::File,
     alloc: Global,
     /// The one opened first is the first.
     open: Vec<Opened<R::File>>,
@@ -61,22 +62,24 @@ fn fill<F: Read>(file: &mut F, buf: &mut [u8]) -> io::Result<usize>
 }
 
 impl<R: Files + Drop> Handles<R> {
-    /// Makes the folder, with those above it, where it isn't there.
+    /// Makes the folder, with those above it, where it isn't there, and opens it.
     pub fn at(rt: R, alloc: Global, dir: String) -> Result<Handles<R>, Trouble> {
-        let mut folder = dir;
-        let ending = if folder.is_empty() {
+        let mut path = dir;
+        let ending = if path.is_empty() {
             "./"
-        } else if folder.as_str().ends_with('/') {
+        } else if path.as_str().ends_with('/') {
             ""
         } else {
             "/"
         };
-        if folder.push_str(ending).is_err() {
+        if path.push_str(ending).is_err() {
             return Err(Trouble::NoMemory);
         }
-        failed(fs::create_dir_all(&rt, folder.as_str()))?;
+        failed(fs::create_dir_all(&rt, path.as_str()))?;
+        let folder = failed(fs::open(&rt, path.as_str()))?;
         Ok(Handles {
             rt,
+            path,
             folder,
             alloc,
             open: Vec::new(alloc),
@@ -86,7 +89,7 @@ impl<R: Files + Drop> Handles<R> {
 
     /// The path of a file.
     pub fn name_of(&self, file: u32) -> Result<String, AllocError> {
-        format!(in self.alloc; "{}f{}", self.folder, file)
+        format!(in self.alloc; "{}f{}", self.path, file)
     }
 
     pub fn close_all(&mut self) {
@@ -198,8 +201,7 @@ impl<R: Files + Drop> Handles<R> {
         };
         failed(self.open[i].handle.sync_all())?;
         if self.has_new_names {
-            let folder = failed(fs::open(&self.rt, self.folder.as_str()))?;
-            failed(folder.sync_all())?;
+            failed(self.folder.sync_all())?;
             self.has_new_names = false;
         }
         Ok(())
