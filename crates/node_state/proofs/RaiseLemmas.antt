@@ -16,7 +16,8 @@ use Rattle.node_state.specs.Fields.{u64_at, i64_at, u32_at, u64_bytes, u32_bytes
 use Rattle.node_state.specs.Node.{Node, Tells, member_of, names_slot}
 use Rattle.node_state.specs.Steps.{AllTell, IsReady, IsRaise, staged, selected}
 use Rattle.node_state.proofs.FieldLemmas.{apart, u64_at-same, u64_at-written, u32_at-written, get_or-written_one}
-use Rattle.node_state.proofs.NodeLemmas.{selects_after}
+use Rattle.cl_base.specs.Torn.{Torn}
+use Rattle.node_state.proofs.NodeLemmas.{selects_after, torn_tells, spare_term, spare_member}
 
 pub device_is_failed : (t : Trouble) → fault_of t ≡ Device → t ≡ Failed
 device_is_failed Failed is = refl
@@ -85,3 +86,24 @@ module _ (slot bits member : ℕ) (before after : Node) (is : IsRaise slot bits 
   left_before left k few before_all =
       let no : k ≢ 4 = omega arith in
       (omega arith, λ choice. subst (λ b. Tells (if b && names_slot slot choice then after else before) (left_by choice (left.files 0))) (sym (ne_eqb k 4 no)) (before_all choice))
+
+-- what was done to the bytes of a file that told the node before, whatever a crash would have left
+module _ (slot bits member : ℕ) (before after : Node) (is : IsRaise slot bits member before after) (below : slot < 2) (reads : List ℕ) (tells : Tells before reads) where
+  torn_by : (at : ℕ) (bytes file : List ℕ) → at ≤ length file → Torn at (length bytes) file (overwritten at bytes file)
+  torn_by at bytes file le =
+      let len = length-overwritten at bytes file le in
+      record { no_shorter = omega (arith, len); no_longer = omega (arith, len); same = λ i within out. overwritten_other at bytes file i le out }
+
+  abbrev one : List ℕ
+  one = overwritten (8 * slot) (u64_bytes bits) reads
+
+  one_tells : Tells before one
+  one_tells = torn_tells before (8 * slot) 8 reads one (spare_term before.slot slot (u64_bytes bits) below is.from refl) (torn_by (8 * slot) (u64_bytes bits) reads (let size = tells.0.size in omega arith)) tells
+
+  pub staged_tells : Tells before (staged slot bits member reads)
+  staged_tells = torn_tells before (20 + 4 * slot) 4 one (staged slot bits member reads) (spare_member before.slot slot (u32_bytes member) below is.from refl)
+      (torn_by (20 + 4 * slot) (u32_bytes member) one (let size = one_tells.0.size in omega arith)) one_tells
+
+  pub raised_tells : bits < 2 ^ 64 → member < 2 ^ 32 → Tells after (selected slot (staged slot bits member reads))
+  raised_tells fits small =
+      selected_tells slot bits member before after is below (staged slot bits member reads) (staged_ready slot bits member before after is below reads fits small tells.0.size staged_tells)

@@ -81,6 +81,8 @@ fn raise_file<D: Disk>(disk: &mut D, slot: usize, bits: u64, member: u32) -> Res
     ensures cause { HasCause (D.fault_count disk.old) (D.fault_count disk.new) result }
     ensures tells { D.tells disk.new ≡ D.tells disk.old }
     ensures honest { D.is_honest disk.new ≡ D.is_honest disk.old }
+    ensures told { IsTrue (D.tells disk.old) → (before after : Node) → IsRaise slot bits member before after → Tells before ((D.state disk.old).files 0).reads
+        → OnOk result (Tells after ((D.state disk.new).files 0).reads) }
     ensures done { IsTrue (D.is_honest disk.old) → (before after : Node) → IsRaise slot bits member before after → AllTell before (D.state disk.old).files (D.state disk.old).files
         → OnOk result (AllTell after (D.state disk.old).files (D.state disk.new).files) }
     ensures each { IsTrue (D.is_honest disk.old) → (before after : Node) → IsRaise slot bits member before after → AllTell before (D.state disk.old).files (D.state disk.old).files
@@ -101,7 +103,9 @@ impl NodeState {
     ghost use Rattle.cl_base.specs.Faults.{HasDeviceCause};
     ghost use Rattle.node_state.specs.Node.{raised};
 
-    /// Reads what the file tells. One of version 1 is made one of version 2.
+    /// Reads what the file tells. One of version 1, with nobody voted for, is made one of version 2. Damaged is at the
+    /// file's length where it is below 32, at 32 where it is above, and else at the first byte of the slot that counts
+    /// where its term is outside -1 to 2^62.
     pub fn mount<D: Disk>(disk: &mut D) -> Result<NodeState, MemberFault>
         ensures cause { HasMountCause (D.fault_count disk.old) (D.fault_count disk.new) result }
         ensures tells { D.tells disk.new ≡ D.tells disk.old }
@@ -128,19 +132,23 @@ impl NodeState {
         }
     }
 
+    /// The candidate term, -1 to 2^62, where -1 is none.
     pub fn candidate_term(&self) -> i64
         ensures { result ≡ self.now.term }
     {
         self.term
     }
 
+    /// The member voted for in the candidate term, 0 to 4.
     pub fn voted(&self) -> Option<u8>
         ensures { result ≡ self.now.voted }
     {
         self.voted
     }
 
-    /// Raises the candidate term, with the member voted for in it.
+    /// Raises the candidate term, at most 2^62, with the member voted for in it, 0 to 4. The slot that doesn't count is
+    /// written and synced, and only then the selector names it. It takes no memory of its own. After an error the value
+    /// is only given up.
     pub fn raise<D: Disk>(
         &mut self,
         disk: &mut D,
@@ -157,6 +165,9 @@ impl NodeState {
         ensures cause { HasDeviceCause (D.fault_count disk.old) (D.fault_count disk.new) result }
         ensures tells { D.tells disk.new ≡ D.tells disk.old }
         ensures honest { D.is_honest disk.new ≡ D.is_honest disk.old }
+
+        // After Ok the file tells the new state.
+        ensures raised { IsTrue (D.tells disk.old) → OnOk result (Tells (raised self.old term voted) ((D.state disk.new).files 0).reads) }
 
         // After Ok each image tells the new state. The other files are as they were.
         ensures done { IsTrue (D.is_honest disk.old) → AllTell self.old (D.state disk.old).files (D.state disk.old).files

@@ -26,44 +26,61 @@ Agree n c e = (i : ℕ) → i < n → get_or c i 0 ≡ get_or e i 0
 module _ (r t b p s v : ℤ) (n : ℕ) (fr : FitsSigned w64 r) (ft : FitsSigned w64 t) (fb : FitsSigned w64 b) (fp : FitsSigned w64 p) (fs : FitsSigned w64 s) (fv : FitsSigned w32 v) (fn : n < 2 ^ 32) where
   abbrev f0 : List ℕ
   f0 = replicate 63 0
+
   abbrev f1 : List ℕ
   f1 = overwritten 0 (signed64 r) f0
+
   abbrev f2 : List ℕ
   f2 = overwritten 8 (signed64 t) f1
+
   abbrev f3 : List ℕ
   f3 = overwritten 16 (signed64 b) f2
+
   abbrev f4 : List ℕ
   f4 = overwritten 24 (signed64 p) f3
+
   abbrev f5 : List ℕ
   f5 = overwritten 32 (signed64 s) f4
+
   abbrev f6 : List ℕ
   f6 = overwritten 40 (signed32 v) f5
+
   abbrev pub block : List ℕ
   block = overwritten 44 (le32 n) f6
 
   l1 : length f1 ≡ 63
   l1 = omega (arith, length-signed64 r, length-overwritten 0 (signed64 r) f0 (omega arith))
+
   l2 : length f2 ≡ 63
   l2 = omega (arith, l1, length-signed64 t, length-overwritten 8 (signed64 t) f1 (omega (arith, l1)))
+
   l3 : length f3 ≡ 63
   l3 = omega (arith, l2, length-signed64 b, length-overwritten 16 (signed64 b) f2 (omega (arith, l2)))
+
   l4 : length f4 ≡ 63
   l4 = omega (arith, l3, length-signed64 p, length-overwritten 24 (signed64 p) f3 (omega (arith, l3)))
+
   l5 : length f5 ≡ 63
   l5 = omega (arith, l4, length-signed64 s, length-overwritten 32 (signed64 s) f4 (omega (arith, l4)))
+
   l6 : length f6 ≡ 63
   l6 = omega (arith, l5, length-signed32 v, length-overwritten 40 (signed32 v) f5 (omega (arith, l5)))
 
   a6 : Agree 44 block f6
   a6 i below = overwritten_other 44 (le32 n) f6 i (omega (arith, l6)) (inl below)
+
   a5 : Agree 40 block f5
   a5 i below = a6 i (omega arith) ∙ overwritten_other 40 (signed32 v) f5 i (omega (arith, l5)) (inl below)
+
   a4 : Agree 32 block f4
   a4 i below = a5 i (omega arith) ∙ overwritten_other 32 (signed64 s) f4 i (omega (arith, l4)) (inl below)
+
   a3 : Agree 24 block f3
   a3 i below = a4 i (omega arith) ∙ overwritten_other 24 (signed64 p) f3 i (omega (arith, l3)) (inl below)
+
   a2 : Agree 16 block f2
   a2 i below = a3 i (omega arith) ∙ overwritten_other 16 (signed64 b) f2 i (omega (arith, l2)) (inl below)
+
   a1 : Agree 8 block f1
   a1 i below = a2 i (omega arith) ∙ overwritten_other 8 (signed64 t) f1 i (omega (arith, l1)) (inl below)
 

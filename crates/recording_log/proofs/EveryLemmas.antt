@@ -63,6 +63,7 @@ or_left false y e = absurd (cc)
 covers_last : (rs : List (ℕ × ℕ)) (a b i : ℕ) → a ≤ i → i < b → covers (rs ++ (a, b) ∷ []) i ≡ true
 covers_last [] a b i from below = let e1 = le-leb a i from in let e2 = lt-ltb i b below in cc
 covers_last (r ∷ rs) a b i from below = or_right (nat_le r.0 i && nat_lt i r.1) (covers (rs ++ (a, b) ∷ []) i) (covers_last rs a b i from below)
+
 -- one byte that is written last: what comes of it goes by a test of the byte
 module _ (V : Type 0) (Is : V → List ℕ → Type 0) (passes : ℕ → Bool) (before after : V) (P : List ℕ → Type 0) (at : ℕ)
     (stays : (e : List ℕ) → P e → Is before e) (flips : (e c : List ℕ) → P e → Torn at 1 e c → Is (if passes (get_or c at 0) then after else before) c) where
@@ -98,6 +99,7 @@ module _ (V : Type 0) (Is : V → List ℕ → Type 0) (passes : ℕ → Bool) (
         let inside : (covers ranges at || nat_le (length s.synced) at) ≡ true = or_left (covers ranges at) (nat_le (length s.synced) at) (covers_last s.ranges at (at + 1) at (omega arith) (omega arith)) in
         let byte : get_or c at 0 ≡ x = here ∙ cond-true (covers ranges at || nat_le (length s.synced) at) x (get_or new_bytes at 0) inside in
         subst (λ v. Is (if passes v then after else before) c) byte is
+
     -- what a fuse leaves of such a write and its sync
     pub through_left : (file : ℕ) (was : ℕ → FileState) (left : DiskState) (k : ℕ) → was file ≡ s → k < 2 → ThroughLeft file at (b ∷ []) was left k
         → (choice : Choice) → Is (if (k == 1) && takes passes choice then after else before) (left_by choice (left.files file))

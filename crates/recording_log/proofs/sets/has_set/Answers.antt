@@ -7,10 +7,12 @@ use Rattle.recording_log.proofs.sets.has_set.Goals as goal
 
 pub returns-then-not-has_part : goal.returns-then-not-has_part
 returns-then-not-has_part c =
-    let out : c.has_part.result ≡ false = search rules in
-    (λ is. absurd (cc), λ set.
-        let is : c.has_part.result ≡ true = c.has_part.ensures.1 (part_of _ _ _ (pos c.loop-s.s) _ (set.each c.loop-s.s (omega arith)) (grind (arith, to_z-of_z))) in
-        let clash : true ≡ false = sym is ∙ out in absurd (cc))
+    let out : c.has_part.result ≡ false = search rules in (
+      λ is. absurd (cc),
+      λ set.
+          let is : c.has_part.result ≡ true = c.has_part.ensures.1 (part_of _ _ _ (pos c.loop-s.s) _ (set.each c.loop-s.s (omega arith)) (grind (arith, to_z-of_z))) in
+          let clash : true ≡ false = sym is ∙ out in absurd (cc),
+    )
 
 pub loop-s-preserved : goal.loop-s-preserved
 loop-s-preserved c =
@@ -19,6 +21,6 @@ loop-s-preserved c =
 
 pub returns : goal.returns
 returns c = (
-    λ is. record { of_module = c.has_part-2.ensures.0 is; each = λ s below. c.loop-s.invariant s (omega arith) },
-    λ set. c.has_part-2.ensures.1 set.of_module,
-  )
+  λ is. record { of_module = c.has_part-2.ensures.0 is; each = λ s below. c.loop-s.invariant s (omega arith) },
+  λ set. c.has_part-2.ensures.1 set.of_module,
+)

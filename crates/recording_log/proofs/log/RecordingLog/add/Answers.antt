@@ -15,8 +15,7 @@ pub invariant_of-self-in-Ok : goal.invariant_of-self-in-Ok
 invariant_of-self-in-Ok g c =
     let old = c.self.inside.entries.items in
     let e = c.args.entry in
-    let items : c.put_entry.new.entries.items ≡ old ++ e ∷ [] = c.put_entry.ensures.entries ∙ ap (λ (l : List RecEntry). l ++ e ∷ []) c.make_room.ensures.entries in
-    (
+    let items : c.put_entry.new.entries.items ≡ old ++ e ∷ [] = c.put_entry.ensures.entries ∙ ap (λ (l : List RecEntry). l ++ e ∷ []) c.make_room.ensures.entries in (
       omega (arith, ap length items, length-append old (e ∷ []), c.in-Some.ensures.place.1),
       c.put_entry.ensures.terms ∙ ap (λ l. l ++ terms_of (e ∷ [])) (c.make_room.ensures.terms ∙ c.self.invariant.1) ∙ sym (ap terms_of items ∙ terms_more old e),
     )

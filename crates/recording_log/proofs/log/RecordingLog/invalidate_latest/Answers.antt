@@ -47,8 +47,7 @@ invariant_of-self g c =
     let mine : IsLatest c.args.services now c.in-Some.i m = subst (λ l. IsLatest c.args.services l c.in-Some.i m) (c.deref.ensures.value ∙ c.self.view_is)
     (c.in-Some.ensures.latest m (subst (λ l. slice_get l c.in-Some.i ≡ Some m) (sym c.deref.ensures.value) there)) in
     let one = snapshot_kind m mine.part.0 in
-    let v = with_kind struck_kind m in
-    (
+    let v = with_kind struck_kind m in (
       omega (arith, length-set items c.in-Some.i v, c.self.invariant.0),
       c.self.invariant.1 ∙ sym (terms_set items c.in-Some.i m v there (no_term m (omega (arith, one))) (no_term v (omega arith))),
     )

@@ -13,5 +13,5 @@ invariant-entries g l = record {
   begins : IsTrue (g.D.Disk.tells l.fn.disk) → Begins l.entries.items ((g.D.Disk.state l.fn.disk).files 1).reads;
   count : length l.entries.items ≡ l.i;
   terms : l.terms.items ≡ terms_of l.entries.items;
-  run : IsTrue (g.D.Disk.is_honest l.fn.disk) → LeavesOnly g.D.Disk.moment g.D.Disk.left_since l.fn.disk l.disk (IsImageOf (g.D.Disk.state l.fn.disk).files)
+  run : IsTrue (g.D.Disk.is_honest l.fn.disk) → LeavesOnly g.D.Disk.moment g.D.Disk.left_since l.fn.disk l.disk (IsImageOf (g.D.Disk.state l.fn.disk).files);
 }
