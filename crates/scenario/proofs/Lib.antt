@@ -3,3 +3,4 @@ pub mod NumberLaws
 pub mod OrderLaws
 pub mod Canonical
 pub mod CanonicalLines
+pub mod Again

@@ -14,7 +14,7 @@ split_none p (x ∷ xs) le = elim (cases_Bool (p x)) [
   | inr off ↦ slice_split-cons_no p x xs off ∙ ap (onto_first x) (split_none p xs (let h = rw off at le in omega arith))
 ]
 
-ended_cons : (part : List ℕ) (parts : List (List ℕ)) → 0 < length parts → ended_lines (part ∷ parts) ≡ without_return part ∷ ended_lines parts
+pub ended_cons : (part : List ℕ) (parts : List (List ℕ)) → 0 < length parts → ended_lines (part ∷ parts) ≡ without_return part ∷ ended_lines parts
 ended_cons part [] lt = absurd (omega arith)
 ended_cons part (next ∷ parts) lt = refl
 

@@ -6,3 +6,5 @@ pub mod Spelling
 pub mod Orders
 pub mod Printing
 pub mod Made
+pub mod Numbered
+pub mod Causes

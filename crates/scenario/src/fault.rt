@@ -1,5 +1,6 @@
 // Why a text isn't a scenario, and what was read of it.
 ghost use Rattle.std.specs.Prelude.{◌≡◌};
+ghost use Rattle.scenario.specs.Causes.{cause_text};
 
 use crate::Order;
 use cl_base::{List, NoMemory};
@@ -28,7 +29,9 @@ pub enum Cause {
 
 impl Cause {
     /// The cause as it is printed.
-    pub fn text(self) -> &'static str {
+    pub fn text(self) -> &'static str
+        ensures { result.now ≡ cause_text self }
+    {
         match self {
             Cause::Byte => "byte",
             Cause::LongLine => "long line",
