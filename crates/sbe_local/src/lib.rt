@@ -3,6 +3,8 @@
 
 mod command;
 mod piece;
+mod strict;
+mod write;
 
-pub use command::Command;
+pub use command::{Command, decode_command, encode_command};
 pub use piece::{Mark, Piece};

@@ -1,0 +1,41 @@
+// What is looked at in a message before a value is read from it.
+ghost use Rattle.std.specs.Prelude.{◌≡◌, ◌<◌, ◌≤◌, ◌^◌, Some, None, length, OnOk, IfErr, IsTrue};
+ghost use Rattle.wire_prims.specs.Strict.{rules_size, strict_fault as fault_of, is_service_session, service_of, number_of};
+ghost use Rattle.wire_prims.specs.StrictLaws.{IsStrict};
+
+use cl_base::limits::NUMBER_LIMIT;
+use wire_prims::{Bad, Rule, Tail, strict_fault};
+
+/// A term, a position, a time or a count: 0 to 2^62.
+pub const NUMBER: Rule = Rule::Wide {
+    low: 0,
+    high: NUMBER_LIMIT as i64,
+};
+
+/// A service.
+pub const SERVICE: Rule = Rule::Narrow { low: 0, high: 2 };
+
+/// Looks at a message whose schema and template are known.
+#[tactic(auto, using(wire_prims::specs::StrictLaws::strict_none))]
+pub fn strict(bytes: &[u8], rules: &[Rule], tail: Tail) -> Result<(), Bad>
+    requires header { 8 ≤ length bytes.now }
+    requires size { rules_size rules.now < 2 ^ 16 }
+    ensures bad { IfErr result (λ bad. fault_of rules.now tail bytes.now ≡ Some bad) }
+    ensures none { OnOk result (fault_of rules.now tail bytes.now ≡ None) }
+    ensures sound { OnOk result (IsStrict rules.now tail bytes.now) }
+{
+    match strict_fault(bytes, rules, tail) {
+        Some(bad) => Err(bad),
+        None => Ok(()),
+    }
+}
+
+/// The service and the number that the session of a service's message names.
+pub fn sender_of(session: i64) -> (u8, i64)
+    requires { IsTrue (is_service_session session) }
+    ensures service { result.0 ≡ service_of session }
+    ensures number { result.1 ≡ number_of session }
+{
+    let n = (-1 - session).cast_unsigned();
+    ((n >> 48) as u8, (n % (1 << 48)) as i64)
+}
