@@ -2,3 +2,4 @@ pub mod Fields
 pub mod Header
 pub mod Strict
 pub mod StrictLaws
+pub mod Frames

@@ -4,12 +4,19 @@
 
 mod fault;
 mod field;
+mod frame;
 mod header;
 mod strict;
 mod write;
 
 pub use fault::{Bad, BadCause, DecodeFault};
 pub use field::{get_i32, get_i64, get_u16, get_u32, put_i32, put_i64, put_u16, put_u32};
+pub use frame::{
+    FIRST_FLAGS, FrameHead, LAST_FLAGS, OPEN_GATE, WHOLE_FLAGS, read_frame, write_frame,
+};
 pub use header::{HEADER_BYTES, Header, SCHEMA, aligned, read_header};
 pub use strict::{Field, Rule, Tail, strict_fault};
 pub use write::{message_of, put_counted};
+
+#[cfg(test)]
+mod tests;
