@@ -1,5 +1,5 @@
 -- Data frames, after Aeron's: a header of 32 bytes and what it carries, up to the next multiple of 32.
-use Rattle.std.specs.Prelude.{◌≡◌, ℕ, ◌+◌, ◌-◌, ◌*◌, ◌/◌, ◌%◌, ◌^◌, ℤ, pos, int_le, Bool, true, false, ◌||◌, nat_lt, nat_le, ◌==◌, if◌then◌else◌, List, [], ◌∷◌, ◌++◌, length, replicate, slice_index, Option, Some, None, Result, Ok, Err}
+use Rattle.std.specs.Prelude.{ℕ, ◌+◌, ◌-◌, ◌/◌, ◌%◌, ◌^◌, pos, int_le, Bool, true, false, ◌||◌, nat_lt, nat_le, ◌==◌, if◌then◌else◌, List, [], ◌∷◌, ◌++◌, length, replicate, slice_index, Option, Some, None, Result, Ok, Err}
 use Rattle.wire_prims.specs.Fields.{u16_at, u32_at, i32_at, le16, le32}
 use Rattle.wire_prims.specs.Header.{bad, aligned_to}
 use Rattle.wire_prims.specs.Strict.{◌or_else◌, unless}

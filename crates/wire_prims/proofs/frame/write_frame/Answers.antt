@@ -1,4 +1,4 @@
-use Rattle.std.proofs.Common.{◌≡◌, ℕ, ◌+◌, ◌-◌, ◌≤◌, length, take, replicate, refl, sym, ◌∙◌, ap, arith}
+use Rattle.std.proofs.Common.{◌≡◌, ℕ, ◌+◌, ◌-◌, ◌≤◌, length, replicate, refl, sym, ◌∙◌, ap, arith}
 use Rattle.cl_base.specs.Disk.{overwritten}
 use Rattle.wire_prims.specs.Fields.{le16, le32}
 use Rattle.wire_prims.specs.Header.{aligned_to}

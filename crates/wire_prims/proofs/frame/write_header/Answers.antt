@@ -1,4 +1,4 @@
-use Rattle.std.proofs.Common.{refl, ◌∙◌, ap, [], ◌∷◌, replicate, ◌+◌, ◌/◌, ◌%◌, ◌^◌, w16, w32}
+use Rattle.std.proofs.Common.{refl, ◌∙◌, ap, [], ◌∷◌, replicate, ◌/◌, ◌%◌, ◌^◌, w16, w32}
 use Rattle.std.specs.Int.{to_le_bytes}
 use Rattle.cl_base.specs.Disk.{overwritten}
 use Rattle.wire_prims.specs.Fields.{le16, le32}
