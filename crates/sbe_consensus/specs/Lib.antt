@@ -1,0 +1,4 @@
+pub mod Templates
+pub mod Spelling
+pub mod BatchLaws
+pub mod Laws

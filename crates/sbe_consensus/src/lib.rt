@@ -2,5 +2,6 @@
 #![tactic(auto)]
 
 mod packet;
+mod template;
 
 pub use packet::{Outgoing, Packet};

@@ -466,3 +466,14 @@ is_service_message bytes term service number stamp payload a b k d p low =
 pub event_long : (bytes : List ℕ) (o : Option Event) → event_of bytes ≡ o → IsSome o → 16 ≤ length bytes
 event_long bytes None is there = absurd (false≢true there)
 event_long bytes (Some e) is there = (event_term bytes e is).0
+
+-- bytes without a fault spell an event, whose term stands at place 8
+pub event_free : (bytes : List ℕ) → first_fault bytes ≡ None → (e : Event) × (event_of bytes ≡ Some e) × (i64_at 8 bytes ≡ term_of e)
+event_free bytes free =
+    let s = sound bytes free in
+    (value_of s.0 bytes, event_there s.0 bytes s.2, sym (term_there s.0 bytes s.2))
+
+-- bytes that spell an event have no fault
+pub free_event : (bytes : List ℕ) (e : Event) → event_of bytes ≡ Some e → first_fault bytes ≡ None
+unfolding event_of
+free_event bytes e is = (event_cases (first_fault bytes) (template_of (u16_at 2 bytes)) bytes e is).0

@@ -113,7 +113,7 @@ all_pass (r ∷ rs) at bytes e =
     let parts = first_none (passes r at bytes) (rules_fault rs (at + rule_size r) bytes) (bad at Value) e in
     (passes_true r at bytes parts.0, all_pass rs (at + rule_size r) bytes parts.1)
 
-none_fails : (rs : List Rule) (at : ℕ) (bytes : List ℕ) → AllPass rs at bytes → rules_fault rs at bytes ≡ None
+pub none_fails : (rs : List Rule) (at : ℕ) (bytes : List ℕ) → AllPass rs at bytes → rules_fault rs at bytes ≡ None
 none_fails [] at bytes h = refl
 none_fails (r ∷ rs) at bytes h =
     first_true (passes r at bytes) (rules_fault rs (at + rule_size r) bytes) (bad at Value) (true_passes r at bytes h.0) (none_fails rs (at + rule_size r) bytes h.1)
