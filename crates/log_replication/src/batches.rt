@@ -12,13 +12,13 @@ fn segment_of(end: u64) -> u64
     end.saturating_sub(1) / SEGMENT_BYTES
 }
 
-/// How many entries the batch from entry `from` has: as many as make one batch, none where the log ends there.
+/// How many entries the batch from entry `from` has: as many as make one batch, none where the log
+/// has no such entry.
 pub fn batch_len(index: &LogIndex, from: u64) -> u64
-    requires { from ≤ length index.now }
     ensures longest { IsLongestBatch index.now from result }
     ensures follows { FollowsBatch index.now from result }
 {
-    let limit = (index.entries() - from).min(BATCH_ENTRIES);
+    let limit = index.entries().saturating_sub(from).min(BATCH_ENTRIES);
     if limit == 0 {
         return 0;
     }

@@ -21,7 +21,8 @@ loop-count-init c =
     let some = c.if-limit-eq0.false in
     let count = c.entries.ensures.count in
     let limit = c.min-limit.ensures in
-    let inside : c.args.from < length xs = omega (arith, some, count, limit) in
+    let rest = c.saturating_sub.ensures in
+    let inside : c.args.from < length xs = omega (arith, some, count, limit, rest) in
     record {
       low = omega arith;
       high = omega (arith, some);
@@ -36,8 +37,9 @@ loop-count-preserved c =
     let k = c.loop-count.count in
     let count = c.entries.ensures.count in
     let limit = c.min-limit.ensures in
+    let rest = c.saturating_sub.ensures in
     let below = c.loop-count-test.true in
-    let inside : from + k < length xs = omega (arith, count, limit, below) in
+    let inside : from + k < length xs = omega (arith, count, limit, rest, below) in
     let few : k < 64 = omega (arith, limit, below) in
     let inv = c.loop-count.invariant in
     let add : c.saturating_add-bytes.result ≡ min (c.loop-count.bytes + get_or (lens_of xs) (from + k) 0) (2 ^ 64 - 1) = c.saturating_add-bytes.ensures ∙ ap (λ n. min (c.loop-count.bytes + n) (2 ^ 64 - 1)) c.event_len.ensures in
@@ -58,8 +60,9 @@ returns-then-bytes-gt-BATCH_BYTES-clause-longest c =
     let k = c.loop-count.count in
     let count = c.entries.ensures.count in
     let limit = c.min-limit.ensures in
+    let rest = c.saturating_sub.ensures in
     let below = c.loop-count-test.true in
-    let inside : from + k < length xs = omega (arith, count, limit, below) in
+    let inside : from + k < length xs = omega (arith, count, limit, rest, below) in
     let inv = c.loop-count.invariant in
     let add : c.saturating_add-bytes.result ≡ min (c.loop-count.bytes + get_or (lens_of xs) (from + k) 0) (2 ^ 64 - 1) = c.saturating_add-bytes.ensures ∙ ap (λ n. min (c.loop-count.bytes + n) (2 ^ 64 - 1)) c.event_len.ensures in
     stops xs from k c.loop-count.bytes c.saturating_add-bytes.result inside inv.low inv.pieces inv.bytes add
@@ -75,10 +78,11 @@ returns-clause-longest c =
     let from = c.args.from in
     let count = c.entries.ensures.count in
     let limit = c.min-limit.ensures in
+    let rest = c.saturating_sub.ensures in
     let inv = c.loop-count.invariant in
     let high = inv.high in
     let end = c.loop-count-test.false in
     let same : c.loop-count.count ≡ c.min-limit.result = omega (arith, high, end) in
     let len = length-drop from xs in
-    is_longest xs from c.min-limit.result (omega (arith, len, count, limit)) (subst (λ k. Pieces (end_of (take from xs)) (drop from xs) k) same inv.pieces)
-    (λ m i p. let few = p.few in omega (arith, i, few, len, count, limit))
+    is_longest xs from c.min-limit.result (omega (arith, len, count, limit, rest)) (subst (λ k. Pieces (end_of (take from xs)) (drop from xs) k) same inv.pieces)
+    (λ m i p. let few = p.few in omega (arith, i, few, len, count, limit, rest))
