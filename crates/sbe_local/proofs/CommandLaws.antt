@@ -1,13 +1,12 @@
 -- What bytes spell as a command is spelled by them alone.
-use Rattle.std.proofs.Common.{◌≡◌, ◌⊎◌, inl, inr, ℕ, ◌+◌, ◌<◌, ◌≤◌, ◌^◌, ℤ, pos, negsuc, Bool, true, false, cond, List, [], ◌∷◌, ◌++◌, length, drop, Option, Some, None, Result, Ok, Err, FitsSigned, w32, w64, refl, sym, ◌∙◌, ap, subst, arith}
+use Rattle.std.proofs.Common.{◌≡◌, ◌⊎◌, inl, inr, ℕ, ◌≤◌, ◌^◌, ℤ, pos, negsuc, List, [], ◌∷◌, ◌++◌, length, Some, None, Result, Ok, Err, refl, sym, ◌∙◌, ap, subst, arith}
 use Rattle.std.specs.Prelude.{IfOk}
 use Rattle.std.proofs.lemmas.Bool.{cases_eq, ne_eqb}
 use Rattle.std.proofs.lemmas.Int.{ints}
 use Rattle.wire_prims.specs.Fields.{u16_at, i32_at, i64_at, IsBytes, i64_at-fits, u16_at-append}
 use Rattle.wire_prims.specs.Header.{bad}
-use Rattle.wire_prims.specs.Strict.{service_session, service_of, number_of, is_service_session, strict_fault}
+use Rattle.wire_prims.specs.Strict.{service_session, service_of, number_of, is_service_session}
 use Rattle.wire_prims.specs.StrictLaws.{strict_none, none_strict, spelled_by, tail_fits, between_fits32}
-use Rattle.wire_prims.specs.declared.fault.Bad.{Bad}
 use Rattle.wire_prims.specs.declared.fault.BadCause.TheVariants as causes
 use Rattle.wire_prims.specs.declared.fault.DecodeFault.{DecodeFault}
 use Rattle.wire_prims.specs.declared.fault.DecodeFault.TheVariants as faults
@@ -140,7 +139,7 @@ again (Cancel corr) h =
 again (Offer service n payload) h =
     let says = service_says service n h.0 h.1 in
     let w = written 1 offer_rules (Rest 16384) (I64 (negsuc 0) ∷ I64 (service_session service n) ∷ I64 (pos 0) ∷ []) payload (omega arith) (omega arith) (record { sfits = omega arith }, (says.fits, (record { sfits = omega arith }, tt))) refl h.2
-        (λ b r. (single (negsuc 0) (i64_at 8 b) r.0, (ap is_service_session r.1.0 ∙ says.names, (single (pos 0) (i64_at 24 b) r.1.1.0, tt)))) in
+    (λ b r. (single (negsuc 0) (i64_at 8 b) r.0, (ap is_service_session r.1.0 ∙ says.names, (single (pos 0) (i64_at 24 b) r.1.1.0, tt)))) in
     record {
       long = w.long;
       template = w.headed.template;
@@ -150,7 +149,7 @@ again (Offer service n payload) h =
     }
 again (Ack position service) h =
     let w = written 33 (number ∷ Narrow (pos 0) (pos 2) ∷ []) Nothing (I64 position ∷ I32 service ∷ []) [] (omega arith) (omega arith) (number_fits position h.0, (between_fits32 (pos 0) (pos 2) service (omega (arith, ints)) (omega (arith, ints)) h.1, tt)) refl refl
-        (λ b r. (range_at (pos 0) (pos (2 ^ 62)) position (i64_at 8 b) r.0 h.0, (range_at (pos 0) (pos 2) service (i32_at 16 b) r.1.0 h.1, tt))) in
+    (λ b r. (range_at (pos 0) (pos (2 ^ 62)) position (i64_at 8 b) r.0 h.0, (range_at (pos 0) (pos 2) service (i32_at 16 b) r.1.0 h.1, tt))) in
     record {
       long = w.long;
       template = w.headed.template;

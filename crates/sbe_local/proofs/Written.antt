@@ -1,5 +1,5 @@
 -- A message that is written has no fault, and its numbers stand in it.
-use Rattle.std.proofs.Common.{◌≡◌, ℕ, ◌+◌, ◌*◌, ◌/◌, ◌%◌, ◌<◌, ◌≤◌, ◌^◌, ◌-◌, ℤ, pos, negsuc, ◌≤ℤ◌, ◌-ℤ◌, ◌+ℤ◌, Bool, true, false, cond, ◌&&◌, List, [], ◌∷◌, ◌++◌, length, Option, Some, None, FitsSigned, w32, w64, refl, sym, ◌∙◌, ap, subst, arith}
+use Rattle.std.proofs.Common.{◌≡◌, ℕ, ◌+◌, ◌*◌, ◌/◌, ◌%◌, ◌<◌, ◌≤◌, ◌^◌, ◌-◌, ℤ, pos, negsuc, Bool, true, false, cond, ◌&&◌, List, [], ◌++◌, length, Option, Some, None, FitsSigned, w64, refl, sym, ◌∙◌, ap, subst, arith}
 use Rattle.std.specs.Prelude.{nat_le, nat_lt, ◌==◌}
 use Rattle.std.proofs.lemmas.Bool.{cond-true, cond-false, and_parts, and_from, leb-true, le-leb, eqb-true, eq-eqb, ltb-false, le-ltb}
 use Rattle.std.proofs.lemmas.List.{length-append, nil_from_length}
@@ -8,7 +8,7 @@ use Rattle.std.proofs.lemmas.Nat.{div-mul-add, mod-mul-add}
 use Rattle.wire_prims.specs.Fields.{u16_at, u32_at, u32_at-append}
 use Rattle.wire_prims.specs.Header.{bad}
 use Rattle.wire_prims.specs.Strict.{message, block_size, rules_size, service_session, service_of, number_of, is_service_session, strict_fault}
-use Rattle.wire_prims.specs.StrictLaws.{Between, AllPass, AllFit, Reads, IsStrict, strict_none, IsHeaded, is_headed, is_strict, length-message, TailFits, tail_value, tail_value-put, tail_spelling, strict_ends, between_fits64, between_fits32}
+use Rattle.wire_prims.specs.StrictLaws.{Between, AllPass, AllFit, Reads, IsStrict, strict_none, IsHeaded, is_headed, is_strict, length-message, TailFits, tail_value, tail_value-put, tail_spelling, strict_ends, between_fits64}
 use Rattle.wire_prims.specs.declared.fault.Bad.{Bad}
 use Rattle.wire_prims.specs.declared.fault.BadCause.TheVariants as causes
 use Rattle.wire_prims.specs.declared.strict.Field.{Field}

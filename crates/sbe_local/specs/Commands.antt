@@ -1,5 +1,5 @@
 -- The one spelling of each command, and what is first wrong with bytes that spell none.
-use Rattle.std.specs.Prelude.{◌≡◌, ℕ, ℤ, pos, negsuc, ◌≤◌, ◌^◌, ◌==◌, unsigned_abs, if◌then◌else◌, List, [], ◌∷◌, length, drop, Option, Some, FitsSigned}
+use Rattle.std.specs.Prelude.{ℕ, pos, negsuc, ◌≤◌, ◌==◌, if◌then◌else◌, List, [], ◌∷◌, length, drop, Option, Some, FitsSigned}
 use Rattle.std.specs.Int.{w64}
 use Rattle.wire_prims.specs.Fields.{i32_at, i64_at}
 use Rattle.wire_prims.specs.Header.{bad}

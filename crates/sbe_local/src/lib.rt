@@ -7,4 +7,4 @@ mod strict;
 mod write;
 
 pub use command::{Command, decode_command, encode_command};
-pub use piece::{Mark, Piece};
+pub use piece::{Mark, Piece, decode_piece, encode_piece};

@@ -1,7 +1,7 @@
 // Messages as bytes.
-ghost use Rattle.std.specs.Prelude.{◌≡◌, ◌<◌, ◌≤◌, ◌^◌, IfOk, length, []};
-ghost use Rattle.wire_prims.specs.Strict.{block_size};
-ghost use Rattle.wire_prims.specs.declared.strict.Tail.TheVariants.{Nothing, Rest, Counted};
+ghost use Rattle.std.specs.Prelude.{◌≡◌, ◌<◌, ◌≤◌, ◌^◌, ◌++◌, IfOk, length, []};
+ghost use Rattle.wire_prims.specs.Strict.{block_size, message, counted};
+ghost use Rattle.wire_prims.specs.declared.strict.Tail.TheVariants.{Nothing, Rest};
 ghost use Rattle.sbe_local.specs.Messages.{spelled};
 
 use cl_base::{Bytes, NoMemory};
@@ -41,7 +41,7 @@ pub fn with_counted(
 ) -> Result<Bytes, NoMemory>
     requires size { block_size fields.now < 2 ^ 16 }
     requires count { length bytes.now < 2 ^ 32 }
-    ensures { IfOk result (λ b. b ≡ spelled template fields.now (Counted 1024) bytes.now) }
+    ensures { IfOk result (λ b. b ≡ message template fields.now ++ counted bytes.now) }
 {
     let mut out = message_of(alloc, template, fields)?;
     put_counted(&mut out, bytes)?;
