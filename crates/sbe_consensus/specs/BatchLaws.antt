@@ -1,16 +1,15 @@
 -- The entries of a batch: what bytes without a fault spell, and what is spelled so.
-use Rattle.std.proofs.Common.{◌≡◌, ℕ, zero, suc, ◌+◌, ◌-◌, ◌^◌, ◌<◌, ◌≤◌, ℤ, pos, negsuc, Bool, true, false, ◌&&◌, List, [], ◌∷◌, ◌++◌, length, take, drop, drop-drop, take-append-drop, Option, Some, None, refl, sym, ◌∙◌, ap, subst, arith, append_assoc}
+use Rattle.std.proofs.Common.{◌≡◌, ℕ, zero, suc, ◌+◌, ◌≤◌, ℤ, true, ◌&&◌, List, [], ◌∷◌, ◌++◌, length, take, drop, drop-drop, take-append-drop, Option, Some, None, refl, sym, ◌∙◌, ap, subst, arith, append_assoc}
 use Rattle.std.specs.Prelude.{nat_le}
 use Rattle.std.proofs.lemmas.Bool.{and_parts, and_from, leb-true, le-leb}
 use Rattle.std.proofs.lemmas.List.{append-nil, length-append, length-take, length-drop, take_at, drop_at}
 use Rattle.cl_base.specs.declared.entry.Entry.{Entry}
-use Rattle.wire_prims.specs.Fields.{u32_at, i64_at, IsBytes, le32, length-le32, u32_at-put, u32_at-drop, u32_at-below, bytes_take, bytes_drop}
-use Rattle.wire_prims.specs.Header.{bad}
+use Rattle.wire_prims.specs.Fields.{u32_at, i64_at, IsBytes, le32, length-le32, u32_at-put, u32_at-drop, u32_at-below}
 use Rattle.wire_prims.specs.Strict.{counted, ◌or_else◌}
 use Rattle.wire_prims.specs.declared.fault.Bad.{Bad}
 use Rattle.sbe_events.specs.Spelling as events
 use Rattle.sbe_events.specs.Laws.{event_free, free_event, event_term}
-use Rattle.sbe_consensus.specs.Spelling.{IsEntry, AreEntries, entries_bytes, part_end, part_at, parts_there, parts_end, shifted, events_fault, entries_at}
+use Rattle.sbe_consensus.specs.Spelling.{AreEntries, entries_bytes, part_end, part_at, parts_there, parts_end, shifted, events_fault, entries_at}
 
 or_none : (a b : Option Bad) → (a or_else b) ≡ None → (a ≡ None) × (b ≡ None)
 or_none None b e = (refl, e)

@@ -1,23 +1,22 @@
 -- What bytes spell is spelled by them alone.
-use Rattle.std.proofs.Common.{◌≡◌, ◌⊎◌, inl, inr, ℕ, zero, suc, ◌+◌, ◌-◌, ◌^◌, ◌<◌, ◌≤◌, ℤ, pos, negsuc, ◌≤ℤ◌, Bool, true, false, cond, not, ◌&&◌, ◌||◌, List, [], ◌∷◌, ◌++◌, length, take, drop, drop-drop, take-append-drop, Option, Some, None, Result, Ok, Err, FitsSigned, w32, w64, refl, sym, ◌∙◌, ap, subst, arith, append_assoc}
+use Rattle.std.proofs.Common.{◌≡◌, ◌⊎◌, inl, inr, ℕ, zero, suc, ◌-◌, ◌^◌, ◌≤◌, ℤ, pos, negsuc, ◌≤ℤ◌, Bool, true, false, cond, not, ◌&&◌, ◌||◌, List, [], ◌++◌, length, drop, Option, Some, None, Ok, Err, FitsSigned, w32, w64, refl, sym, ◌∙◌, ap, subst, arith}
 use Rattle.std.specs.Prelude.{int_le, nat_le, nat_lt, ◌==◌, unsigned_abs}
 use Rattle.std.specs.Ordering.{int_eq}
-use Rattle.std.proofs.lemmas.Bool.{cases_Bool, cond-true, cond-false, and_parts, and_from, and_right, or_right, leb-true, le-leb, eqb-true, eq-eqb, ltb-false, le-ltb}
-use Rattle.std.proofs.lemmas.List.{append-nil, length-append, length-take, length-drop, take_at, drop_at, nil_from_length, drop_all}
+use Rattle.std.proofs.lemmas.Bool.{cond-true, cond-false, and_from, and_right, or_right, leb-true, le-leb, eqb-true, eq-eqb, ltb-false, le-ltb}
+use Rattle.std.proofs.lemmas.List.{append-nil, length-append, drop_all}
 use Rattle.std.proofs.lemmas.Int.{ints}
 use Rattle.cl_base.specs.declared.entry.Entry.{Entry}
-use Rattle.wire_prims.specs.Fields.{u16_at, u32_at, i32_at, i64_at, IsBytes, u32_at-put, u32_at-drop, u32_at-below, le32, length-le32, bytes_take, bytes_drop}
+use Rattle.wire_prims.specs.Fields.{u16_at, i32_at, i64_at, IsBytes}
 use Rattle.wire_prims.specs.Header.{bad, numbers_of, header_of}
-use Rattle.wire_prims.specs.Strict.{message, counted, block_size, strict_fault, rules_fault, unless, ◌or_else◌, rules_size}
-use Rattle.wire_prims.specs.StrictLaws.{Between, AllPass, AllFit, Reads, IsStrict, strict_none, none_strict, spelled_by, none_fails, IsHeaded, is_headed, is_strict, length-message, between_fits64, between_fits32, true_from}
+use Rattle.wire_prims.specs.Strict.{message, strict_fault, rules_fault, unless, ◌or_else◌}
+use Rattle.wire_prims.specs.StrictLaws.{Between, AllPass, AllFit, IsStrict, strict_none, none_strict, spelled_by, none_fails, IsHeaded, is_headed, is_strict, length-message, between_fits64, between_fits32, true_from}
 use Rattle.wire_prims.specs.declared.fault.Bad.{Bad}
 use Rattle.wire_prims.specs.declared.fault.BadCause.TheVariants as causes
 use Rattle.wire_prims.specs.declared.header.Header.{Header}
-use Rattle.wire_prims.specs.declared.strict.Field.{Field}
 use Rattle.wire_prims.specs.declared.strict.Tail.TheVariants.{Nothing, Rest}
 use Rattle.sbe_consensus.specs.Templates.{number_of, is_announcement, template_by, template_of, rules_of}
 use Rattle.sbe_consensus.specs.BatchLaws.{length-entries_at, parts_within, parts_spelled, parts_entries, Stand, entries_stand}
-use Rattle.sbe_consensus.specs.Spelling.{entries_bytes, entries_at, count_of, counts, parts_there, parts_end, events_fault, AreEntries, template_number as packet_number, IsNumber, IsLast, IsMember, IsUnasked, IsAnswer, HasSpelling, fields_of, content_of, spelling_of, batch_fault, body_fault, template_fault, header_fault, first_fault, value_of, packet_from, packet_of}
+use Rattle.sbe_consensus.specs.Spelling.{entries_bytes, entries_at, count_of, counts, parts_there, parts_end, events_fault, IsNumber, IsLast, IsMember, IsUnasked, IsAnswer, HasSpelling, fields_of, spelling_of, batch_fault, body_fault, template_fault, header_fault, first_fault, value_of, packet_from, packet_of}
 use Rattle.sbe_consensus.specs.declared.template.Template.{Template}
 use Rattle.sbe_consensus.specs.declared.template.Template.TheVariants as templates
 use Rattle.sbe_consensus.specs.declared.packet.Packet.{Packet}
