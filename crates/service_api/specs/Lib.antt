@@ -3,6 +3,8 @@ pub mod Outputs
 pub mod Echo
 pub mod Ledger
 pub mod LedgerLaws
+pub mod Ticker
+pub mod TickerLaws
 pub mod Shipped
 pub mod Service
 pub mod ServiceLaws

@@ -8,9 +8,13 @@ mod number;
 mod output;
 mod service;
 mod shipped;
+#[cfg(test)]
+mod tests;
+mod ticker;
 
 pub use echo::Echo;
 pub use ledger::Ledger;
 pub use output::{Output, Outputs};
 pub use service::Service;
 pub use shipped::{Kind, Shipped};
+pub use ticker::Ticker;

@@ -5,7 +5,7 @@ ghost use Rattle.service_api.specs.Outputs.{BeginsWith};
 ghost use Rattle.service_api.specs.Reading.{Reads};
 ghost use Rattle.service_api.specs.Shipped.{first_of, applied_of, spelled_of, restored_of, kind_of};
 
-use crate::{Echo, Ledger, Outputs, Service};
+use crate::{Echo, Ledger, Outputs, Service, Ticker};
 use cl_base::{Bytes, NoMemory};
 use sbe_events::Event;
 use std::alloc::Global;
@@ -18,6 +18,8 @@ pub enum Kind {
     Echo,
     /// It adds amounts.
     Ledger,
+    /// It sets timers for clients.
+    Ticker,
 }
 
 /// A shipped service. It does what the service of its kind does.
@@ -25,6 +27,7 @@ pub enum Kind {
 pub enum Shipped {
     Echo(Echo),
     Ledger(Ledger),
+    Ticker(Ticker),
 }
 
 impl Shipped {
@@ -35,6 +38,7 @@ impl Shipped {
         Ok(match kind {
             Kind::Echo => Shipped::Echo(Echo::start(alloc)?),
             Kind::Ledger => Shipped::Ledger(Ledger::start(alloc)?),
+            Kind::Ticker => Shipped::Ticker(Ticker::start(alloc)?),
         })
     }
 
@@ -51,6 +55,10 @@ impl Shipped {
                 Ok(s) => Ok(Shipped::Ledger(s)),
                 Err(fault) => Err(fault),
             },
+            Kind::Ticker => match Ticker::from_records(alloc, bytes) {
+                Ok(s) => Ok(Shipped::Ticker(s)),
+                Err(fault) => Err(fault),
+            },
         }
     }
 
@@ -61,6 +69,7 @@ impl Shipped {
         match self {
             Shipped::Echo(_) => Kind::Echo,
             Shipped::Ledger(_) => Kind::Ledger,
+            Shipped::Ticker(_) => Kind::Ticker,
         }
     }
 
@@ -76,6 +85,7 @@ impl Shipped {
         match self {
             Shipped::Echo(s) => s.apply(index, e, out),
             Shipped::Ledger(s) => s.apply(index, e, out),
+            Shipped::Ticker(s) => s.apply(index, e, out),
         }
     }
 
@@ -88,6 +98,7 @@ impl Shipped {
         match self {
             Shipped::Echo(s) => s.records(),
             Shipped::Ledger(s) => s.records(),
+            Shipped::Ticker(s) => s.records(),
         }
     }
 }
