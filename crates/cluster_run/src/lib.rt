@@ -2,6 +2,11 @@
 #![tactic(auto)]
 
 mod page;
+mod report;
 mod stream;
+mod text;
 
+pub use report::{
+    EntryLine, Kept, MemberEnd, Origin, RecordLine, Report, ServiceRun, SnapshotLine, StreamLines,
+};
 pub use stream::{Unread, give, take_all};
