@@ -1,3 +1,4 @@
 pub mod Pieces
+pub mod Status
 pub mod Streams
 pub mod Text

@@ -6,3 +6,7 @@ use Rattle.hex.specs.Hex.{encode_lower}
 abbrev pub hex_text : List ℕ → List ℕ
 hex_text [] = codes "-"
 hex_text (b ∷ rest) = encode_lower (b ∷ rest)
+
+-- how each line ends
+abbrev pub newline : List ℕ
+newline = 10 ∷ []

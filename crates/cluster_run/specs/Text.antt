@@ -2,7 +2,7 @@
 use Rattle.std.specs.Prelude.{ℕ, ℤ, List, [], ◌∷◌, ◌++◌, length, codes}
 use Rattle.std.specs.List.{flat_map}
 use Rattle.std.specs.Fmt.{decimal, signed_decimal}
-use Rattle.cluster_run.specs.Pieces.{hex_text}
+use Rattle.cluster_run.specs.Pieces.{hex_text, newline}
 use Rattle.sbe_events.specs.declared.event.Event.{Event}
 use Rattle.sbe_events.specs.declared.event.Event.TheVariants as event
 use Rattle.cluster_run.specs.declared.report.EntryLine.{EntryLine}
@@ -17,17 +17,16 @@ use Rattle.cluster_run.specs.declared.report.MemberEnd.{MemberEnd}
 use Rattle.cluster_run.specs.declared.report.MemberEnd.TheVariants as member
 use Rattle.cluster_run.specs.declared.report.Report.{Report}
 
-abbrev pub newline : List ℕ
-newline = 10 ∷ []
-
 -- the leader of a new term, the place at which the term begins, and the stamp
 abbrev pub term_text : ℤ → ℤ → ℤ → List ℕ
 term_text leader base stamp = codes "term leader " ++ signed_decimal leader ++ codes " base " ++ signed_decimal base ++ codes " ts " ++ signed_decimal stamp
 
+-- an opened session, where its client listens, and the number of its connect
+abbrev pub open_front : ℤ → ℤ → ℤ → List ℕ
+open_front session stream corr = codes "open " ++ signed_decimal session ++ codes " stream " ++ signed_decimal stream ++ codes " corr " ++ signed_decimal corr
+
 abbrev pub open_text : ℤ → ℤ → ℤ → ℤ → List ℕ → List ℕ
-open_text session stream corr stamp channel =
-    codes "open " ++ signed_decimal session ++ codes " stream " ++ signed_decimal stream ++ codes " corr " ++ signed_decimal corr ++ codes " ts " ++ signed_decimal stamp
-    ++ codes " channel " ++ hex_text channel
+open_text session stream corr stamp channel = open_front session stream corr ++ codes " ts " ++ signed_decimal stamp ++ codes " channel " ++ hex_text channel
 
 abbrev pub message_text : ℤ → ℤ → List ℕ → List ℕ
 message_text session stamp payload = codes "message " ++ signed_decimal session ++ codes " ts " ++ signed_decimal stamp ++ codes " " ++ hex_text payload
@@ -88,11 +87,15 @@ stream_text s = codes "stream " ++ signed_decimal s.stream ++ codes " egress " +
 abbrev pub snapshot_line : SnapshotLine → List ℕ
 snapshot_line s = codes "snapshot " ++ decimal s.position ++ codes " " ++ signed_decimal s.term ++ newline
 
--- what a member's disk keeps, after the member and whether it runs, with the commit between its numbers
+abbrev pub kept_front : Kept → List ℕ
+kept_front k = codes " candidate " ++ signed_decimal k.candidate ++ codes " entries " ++ decimal k.entries ++ codes " same " ++ decimal k.same
+
+abbrev pub kept_back : List ℕ → ℕ → List ℕ
+kept_back commit snapshots = codes " commit " ++ commit ++ codes " snapshots " ++ decimal snapshots ++ newline
+
+-- what a member's disk keeps, after the member and whether it runs, with the commit among its numbers
 abbrev pub kept_text : List ℕ → Kept → List ℕ
-kept_text commit k =
-    codes " candidate " ++ signed_decimal k.candidate ++ codes " entries " ++ decimal k.entries ++ codes " same " ++ decimal k.same ++ codes " commit " ++ commit ++ codes " snapshots " ++ decimal (length k.snapshots) ++ newline
-    ++ entry_lines (codes "own") k.own ++ flat_map snapshot_line k.snapshots
+kept_text commit k = kept_front k ++ kept_back commit (length k.snapshots) ++ entry_lines (codes "own") k.own ++ flat_map snapshot_line k.snapshots
 
 abbrev pub member_text : MemberEnd → List ℕ
 member_text (member.Up m commit kept) = codes "member " ++ decimal m ++ codes " up" ++ kept_text (decimal commit) kept

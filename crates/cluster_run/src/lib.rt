@@ -3,10 +3,13 @@
 
 mod page;
 mod report;
+mod sections;
+mod status;
 mod stream;
 mod text;
 
 pub use report::{
     EntryLine, Kept, MemberEnd, Origin, RecordLine, Report, ServiceRun, SnapshotLine, StreamLines,
 };
+pub use status::Status;
 pub use stream::{Unread, give, take_all};

@@ -1,6 +1,9 @@
 // What is known of a run at its end: the printed log, what the services took, what the clients got, and the members.
-use cl_base::{Bytes, List};
+use crate::page::put;
+use crate::sections::{put_log, put_members, put_runs, put_streams};
+use cl_base::{Bytes, List, NoMemory};
 use sbe_events::Event;
+use std::alloc::Global;
 
 /// One entry of a log, as it is printed.
 #[derive(Debug, Drop)]
@@ -99,4 +102,22 @@ pub struct Report {
     /// The streams that have a record, rising.
     pub streams: List<StreamLines>,
     pub members: List<MemberEnd>,
+}
+
+impl Report {
+    ghost use Rattle.std.specs.Prelude.{◌≡◌, IfOk};
+    ghost use Rattle.cluster_run.specs.Text.{report_text};
+
+    /// The report as it is printed.
+    pub fn text(&self, alloc: Global) -> Result<Bytes, NoMemory>
+        ensures { IfOk result (λ text. text ≡ report_text self.now) }
+    {
+        let mut page = String::new(alloc);
+        put_log(&mut page, self.log.as_slice())?;
+        put_runs(&mut page, self.runs.as_slice())?;
+        put_streams(&mut page, self.streams.as_slice())?;
+        put_members(&mut page, self.members.as_slice())?;
+        put(&mut page, "done\n")?;
+        Ok(Bytes::from_vec(page.into_bytes()))
+    }
 }

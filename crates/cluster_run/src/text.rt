@@ -1,7 +1,7 @@
 // The text of a report.
 ghost use Rattle.std.specs.Prelude.{◌≡◌, ◌++◌, OnOk, IfOk, string_bytes};
 ghost use Rattle.std.specs.List.{flat_map};
-ghost use Rattle.cluster_run.specs.Text.{term_text, open_text, message_text, service_text, timer_text, close_text, snapshot_text, event_text, entry_line, entry_lines};
+ghost use Rattle.cluster_run.specs.Text.{term_text, open_front, open_text, message_text, service_text, timer_text, close_text, snapshot_text, event_text, entry_line, entry_lines};
 
 use crate::page::put_hex;
 use crate::report::EntryLine;
@@ -11,14 +11,24 @@ use sbe_events::Event;
 fn put_term(page: &mut String, leader: i32, base: i64, stamp: i64) -> Result<(), NoMemory>
     ensures { OnOk result (string_bytes page.new ≡ string_bytes page.old ++ term_text leader base stamp) }
 {
-    write!(page, "term leader {leader} base {base} ts {stamp}")?;
+    write!(page, "term leader {leader} base {base}")?;
+    write!(page, " ts {stamp}")?;
+    Ok(())
+}
+
+fn put_open_front(page: &mut String, session: i64, stream: i32, corr: i64) -> Result<(), NoMemory>
+    ensures { OnOk result (string_bytes page.new ≡ string_bytes page.old ++ open_front session stream corr) }
+{
+    write!(page, "open {session} stream {stream}")?;
+    write!(page, " corr {corr}")?;
     Ok(())
 }
 
 fn put_open(page: &mut String, session: i64, stream: i32, corr: i64, stamp: i64, channel: &[u8]) -> Result<(), NoMemory>
     ensures { OnOk result (string_bytes page.new ≡ string_bytes page.old ++ open_text session stream corr stamp channel.now) }
 {
-    write!(page, "open {session} stream {stream} corr {corr} ts {stamp} channel ")?;
+    put_open_front(page, session, stream, corr)?;
+    write!(page, " ts {stamp} channel ")?;
     put_hex(page, channel)
 }
 
