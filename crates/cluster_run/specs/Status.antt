@@ -48,4 +48,4 @@ ended meant (Err trouble.NoMemory) = status.NoMemory
 
 -- the answer is this one, unless the sink failed under its text or no memory was there
 abbrev pub IsOrGivesUp : Status → Status → Type 0
-IsOrGivesUp given meant = (given ≡ meant) ⊎ (given ≡ status.WriteFault) ⊎ (given ≡ status.NoMemory)
+IsOrGivesUp given meant = (given ≡ meant) ⊎ ((given ≡ status.WriteFault) ⊎ (given ≡ status.NoMemory))

@@ -4,7 +4,7 @@ ghost use Rattle.std.specs.List.{flat_map};
 ghost use Rattle.cluster_run.specs.Pieces.{hex_text};
 ghost use Rattle.cluster_run.specs.Text.{entry_lines, log_text, run_text, origin_text, record_line, stream_text, snapshot_line, kept_front, kept_back, kept_text, member_text};
 
-use crate::page::{put, put_hex};
+use crate::page::{put, put_hex, put_number};
 use crate::report::{
     EntryLine, Kept, MemberEnd, Origin, RecordLine, ServiceRun, SnapshotLine, StreamLines,
 };
@@ -155,16 +155,22 @@ fn put_down(page: &mut String, member: u8, kept: &Kept) -> Result<(), NoMemory>
 fn put_unread(page: &mut String, member: u8) -> Result<(), NoMemory>
     ensures { OnOk result (string_bytes page.new ≡ string_bytes page.old ++ member_text (MemberEnd.Unread member)) }
 {
-    write!(page, "member {member} down unread\n")?;
-    Ok(())
+    put(page, "member ")?;
+    put_number(page, u64::from(member))?;
+    put(page, " down unread")?;
+    put(page, "\n")
 }
 
 fn put_damaged(page: &mut String, member: u8, file: u32, place: u64) -> Result<(), NoMemory>
     ensures { OnOk result (string_bytes page.new ≡ string_bytes page.old ++ member_text (MemberEnd.Damaged member file place)) }
 {
-    write!(page, "member {member} down damaged {file}")?;
-    write!(page, " {place}\n")?;
-    Ok(())
+    put(page, "member ")?;
+    put_number(page, u64::from(member))?;
+    put(page, " down damaged ")?;
+    put_number(page, u64::from(file))?;
+    put(page, " ")?;
+    put_number(page, place)?;
+    put(page, "\n")
 }
 
 fn put_member(page: &mut String, member: &MemberEnd) -> Result<(), NoMemory>

@@ -2,6 +2,7 @@
 ghost use Rattle.std.specs.Prelude.{◌≡◌, ◌++◌, OnOk, IfOk, string_bytes};
 ghost use Rattle.cluster_run.specs.Status.{exit_code, cause_text, status_text, ended};
 
+use crate::Answer;
 use crate::page::{put, put_number};
 use cl_base::{Bytes, NoMemory, Trouble};
 use scenario::Cause;
@@ -52,6 +53,8 @@ fn put_refusal(page: &mut String, line: u64, cause: Cause) -> Result<(), NoMemor
 }
 
 impl Status {
+    ghost use Rattle.cluster_run.specs.Top.{refusal};
+
     /// The exit status of the program.
     pub fn code(self) -> u8
         ensures { result ≡ exit_code self }
@@ -83,6 +86,14 @@ impl Status {
             Status::Done | Status::WriteFault | Status::NoMemory => {}
         }
         Ok(Bytes::from_vec(page.into_bytes()))
+    }
+
+    /// A refusal with its line.
+    pub(crate) fn alone(self, alloc: Global) -> Result<Answer, NoMemory>
+        ensures { IfOk result (λ a. a ≡ refusal self) }
+    {
+        let text = self.text(alloc)?;
+        Ok(Answer { status: self, text })
     }
 
     /// How the call ends where it means this answer, after the answer's text was written or not.

@@ -3,7 +3,7 @@ ghost use Rattle.std.specs.Prelude.{◌≡◌, ◌++◌, OnOk, IfOk, string_byte
 ghost use Rattle.std.specs.List.{flat_map};
 ghost use Rattle.cluster_run.specs.Text.{term_text, open_front, open_text, message_text, service_text, timer_text, close_text, snapshot_text, event_text, entry_line, entry_lines};
 
-use crate::page::put_hex;
+use crate::page::{put, put_hex, put_signed};
 use crate::report::EntryLine;
 use cl_base::NoMemory;
 use sbe_events::Event;
@@ -11,17 +11,23 @@ use sbe_events::Event;
 fn put_term(page: &mut String, leader: i32, base: i64, stamp: i64) -> Result<(), NoMemory>
     ensures { OnOk result (string_bytes page.new ≡ string_bytes page.old ++ term_text leader base stamp) }
 {
-    write!(page, "term leader {leader} base {base}")?;
-    write!(page, " ts {stamp}")?;
-    Ok(())
+    put(page, "term leader ")?;
+    put_signed(page, leader as i64)?;
+    put(page, " base ")?;
+    put_signed(page, base)?;
+    put(page, " ts ")?;
+    put_signed(page, stamp)
 }
 
 fn put_open_front(page: &mut String, session: i64, stream: i32, corr: i64) -> Result<(), NoMemory>
     ensures { OnOk result (string_bytes page.new ≡ string_bytes page.old ++ open_front session stream corr) }
 {
-    write!(page, "open {session} stream {stream}")?;
-    write!(page, " corr {corr}")?;
-    Ok(())
+    put(page, "open ")?;
+    put_signed(page, session)?;
+    put(page, " stream ")?;
+    put_signed(page, stream as i64)?;
+    put(page, " corr ")?;
+    put_signed(page, corr)
 }
 
 fn put_open(page: &mut String, session: i64, stream: i32, corr: i64, stamp: i64, channel: &[u8]) -> Result<(), NoMemory>
