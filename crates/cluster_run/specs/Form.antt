@@ -91,7 +91,7 @@ line_of (order.FreeOn line) = line
 line_of (order.FreeOff line) = line
 
 -- the first order that isn't run yet, from a stage on, behind so many rounds
-unfoldable pub unbuilt_from : Stage → ℕ → List Order → Option Refusal
+abbrev pub unbuilt_from : Stage → ℕ → List Order → Option Refusal
 unbuilt_from at before [] = None
 unbuilt_from at before (o ∷ orders) =
     if fits at before o then unbuilt_from (next_stage at) (before + rounds_in o) orders

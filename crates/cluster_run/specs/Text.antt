@@ -2,7 +2,7 @@
 use Rattle.std.specs.Prelude.{ℕ, ℤ, List, [], ◌∷◌, ◌++◌, length, codes}
 use Rattle.std.specs.List.{flat_map}
 use Rattle.std.specs.Fmt.{decimal, signed_decimal}
-use Rattle.cluster_run.specs.Pieces.{hex_text, newline}
+use Rattle.cluster_run.specs.Pieces.{hex_text, newline, count, value}
 use Rattle.sbe_events.specs.declared.event.Event.{Event}
 use Rattle.sbe_events.specs.declared.event.Event.TheVariants as event
 use Rattle.cluster_run.specs.declared.report.EntryLine.{EntryLine}
@@ -19,14 +19,14 @@ use Rattle.cluster_run.specs.declared.report.Report.{Report}
 
 -- the leader of a new term, the place at which the term begins, and the stamp
 abbrev pub term_text : ℤ → ℤ → ℤ → List ℕ
-term_text leader base stamp = codes "term leader " ++ signed_decimal leader ++ codes " base " ++ signed_decimal base ++ codes " ts " ++ signed_decimal stamp
+term_text leader base stamp = value (codes "term leader ") leader ++ value (codes " base ") base ++ value (codes " ts ") stamp
 
 -- an opened session, where its client listens, and the number of its connect
 abbrev pub open_front : ℤ → ℤ → ℤ → List ℕ
-open_front session stream corr = codes "open " ++ signed_decimal session ++ codes " stream " ++ signed_decimal stream ++ codes " corr " ++ signed_decimal corr
+open_front session stream corr = value (codes "open ") session ++ value (codes " stream ") stream ++ value (codes " corr ") corr
 
 abbrev pub open_text : ℤ → ℤ → ℤ → ℤ → List ℕ → List ℕ
-open_text session stream corr stamp channel = open_front session stream corr ++ codes " ts " ++ signed_decimal stamp ++ codes " channel " ++ hex_text channel
+open_text session stream corr stamp channel = open_front session stream corr ++ value (codes " ts ") stamp ++ codes " channel " ++ hex_text channel
 
 abbrev pub message_text : ℤ → ℤ → List ℕ → List ℕ
 message_text session stamp payload = codes "message " ++ signed_decimal session ++ codes " ts " ++ signed_decimal stamp ++ codes " " ++ hex_text payload
@@ -100,8 +100,8 @@ kept_text commit k = kept_front k ++ kept_back commit (length k.snapshots) ++ en
 abbrev pub member_text : MemberEnd → List ℕ
 member_text (member.Up m commit kept) = codes "member " ++ decimal m ++ codes " up" ++ kept_text (decimal commit) kept
 member_text (member.Down m kept) = codes "member " ++ decimal m ++ codes " down" ++ kept_text (codes "-") kept
-member_text (member.Unread m) = codes "member " ++ decimal m ++ codes " down unread" ++ newline
-member_text (member.Damaged m file place) = codes "member " ++ decimal m ++ codes " down damaged " ++ decimal file ++ codes " " ++ decimal place ++ newline
+member_text (member.Unread m) = count (codes "member ") m ++ codes " down unread" ++ newline
+member_text (member.Damaged m file place) = count (codes "member ") m ++ count (codes " down damaged ") file ++ count (codes " ") place ++ newline
 
 abbrev pub report_text : Report → List ℕ
 report_text r = log_text r.log ++ flat_map run_text r.runs ++ flat_map stream_text r.streams ++ flat_map member_text r.members ++ codes "done" ++ newline

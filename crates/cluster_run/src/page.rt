@@ -2,7 +2,7 @@
 ghost use Rattle.std.specs.Prelude.{◌≡◌, ◌++◌, OnOk, string_bytes};
 ghost use Rattle.std.specs.Fmt.{decimal, signed_decimal};
 ghost use Rattle.hex.specs.Hex.{encode_lower};
-ghost use Rattle.cluster_run.specs.Pieces.{hex_text};
+ghost use Rattle.cluster_run.specs.Pieces.{hex_text, count, value};
 
 use cl_base::NoMemory;
 
@@ -35,4 +35,29 @@ pub(crate) fn put_hex(page: &mut String, bytes: &[u8]) -> Result<(), NoMemory>
     }
     let text = hex::encode(*page.allocator(), bytes)?;
     put(page, text.as_str())
+}
+
+/// Words, and a number behind them.
+pub(crate) fn put_count(page: &mut String, words: &str, n: u64) -> Result<(), NoMemory>
+    ensures { OnOk result (string_bytes page.new ≡ string_bytes page.old ++ count words.now n) }
+{
+    put(page, words)?;
+    put_number(page, n)
+}
+
+/// Words, and a signed number behind them.
+pub(crate) fn put_value(page: &mut String, words: &str, n: i64) -> Result<(), NoMemory>
+    ensures { OnOk result (string_bytes page.new ≡ string_bytes page.old ++ value words.now n) }
+{
+    put(page, words)?;
+    put_signed(page, n)
+}
+
+/// The same at 32 bits.
+pub(crate) fn put_value32(page: &mut String, words: &str, n: i32) -> Result<(), NoMemory>
+    ensures { OnOk result (string_bytes page.new ≡ string_bytes page.old ++ value words.now n) }
+{
+    put(page, words)?;
+    write!(page, "{n}")?;
+    Ok(())
 }

@@ -4,7 +4,7 @@ ghost use Rattle.std.specs.List.{flat_map};
 ghost use Rattle.cluster_run.specs.Pieces.{hex_text};
 ghost use Rattle.cluster_run.specs.Text.{entry_lines, log_text, run_text, origin_text, record_line, stream_text, snapshot_line, kept_front, kept_back, kept_text, member_text};
 
-use crate::page::{put, put_hex, put_number};
+use crate::page::{put, put_count, put_hex, put_number, put_signed};
 use crate::report::{
     EntryLine, Kept, MemberEnd, Origin, RecordLine, ServiceRun, SnapshotLine, StreamLines,
 };
@@ -112,10 +112,12 @@ fn put_snapshots(page: &mut String, snapshots: &[SnapshotLine]) -> Result<(), No
 fn put_kept_front(page: &mut String, kept: &Kept) -> Result<(), NoMemory>
     ensures { OnOk result (string_bytes page.new ≡ string_bytes page.old ++ kept_front kept.now) }
 {
-    let (candidate, entries, same) = (kept.candidate, kept.entries, kept.same);
-    write!(page, " candidate {candidate} entries {entries}")?;
-    write!(page, " same {same}")?;
-    Ok(())
+    put(page, " candidate ")?;
+    put_signed(page, kept.candidate)?;
+    put(page, " entries ")?;
+    put_number(page, kept.entries)?;
+    put(page, " same ")?;
+    put_number(page, kept.same)
 }
 
 fn put_kept_back(page: &mut String, commit: &str, snapshots: usize) -> Result<(), NoMemory>
@@ -123,8 +125,9 @@ fn put_kept_back(page: &mut String, commit: &str, snapshots: usize) -> Result<()
 {
     put(page, " commit ")?;
     put(page, commit)?;
-    write!(page, " snapshots {snapshots}\n")?;
-    Ok(())
+    put(page, " snapshots ")?;
+    put_number(page, snapshots as u64)?;
+    put(page, "\n")
 }
 
 /// What a member's disk keeps, with its commit, or a dash, among the numbers.
@@ -155,8 +158,7 @@ fn put_down(page: &mut String, member: u8, kept: &Kept) -> Result<(), NoMemory>
 fn put_unread(page: &mut String, member: u8) -> Result<(), NoMemory>
     ensures { OnOk result (string_bytes page.new ≡ string_bytes page.old ++ member_text (MemberEnd.Unread member)) }
 {
-    put(page, "member ")?;
-    put_number(page, u64::from(member))?;
+    put_count(page, "member ", member as u64)?;
     put(page, " down unread")?;
     put(page, "\n")
 }
@@ -164,12 +166,9 @@ fn put_unread(page: &mut String, member: u8) -> Result<(), NoMemory>
 fn put_damaged(page: &mut String, member: u8, file: u32, place: u64) -> Result<(), NoMemory>
     ensures { OnOk result (string_bytes page.new ≡ string_bytes page.old ++ member_text (MemberEnd.Damaged member file place)) }
 {
-    put(page, "member ")?;
-    put_number(page, u64::from(member))?;
-    put(page, " down damaged ")?;
-    put_number(page, u64::from(file))?;
-    put(page, " ")?;
-    put_number(page, place)?;
+    put_count(page, "member ", member as u64)?;
+    put_count(page, " down damaged ", file as u64)?;
+    put_count(page, " ", place)?;
     put(page, "\n")
 }
 

@@ -3,7 +3,7 @@ ghost use Rattle.std.specs.Prelude.{◌≡◌, ◌++◌, OnOk, IfOk, string_byte
 ghost use Rattle.std.specs.List.{flat_map};
 ghost use Rattle.cluster_run.specs.Text.{term_text, open_front, open_text, message_text, service_text, timer_text, close_text, snapshot_text, event_text, entry_line, entry_lines};
 
-use crate::page::{put, put_hex, put_signed};
+use crate::page::{put, put_hex, put_value, put_value32};
 use crate::report::EntryLine;
 use cl_base::NoMemory;
 use sbe_events::Event;
@@ -11,30 +11,25 @@ use sbe_events::Event;
 fn put_term(page: &mut String, leader: i32, base: i64, stamp: i64) -> Result<(), NoMemory>
     ensures { OnOk result (string_bytes page.new ≡ string_bytes page.old ++ term_text leader base stamp) }
 {
-    put(page, "term leader ")?;
-    put_signed(page, leader as i64)?;
-    put(page, " base ")?;
-    put_signed(page, base)?;
-    put(page, " ts ")?;
-    put_signed(page, stamp)
+    put_value32(page, "term leader ", leader)?;
+    put_value(page, " base ", base)?;
+    put_value(page, " ts ", stamp)
 }
 
 fn put_open_front(page: &mut String, session: i64, stream: i32, corr: i64) -> Result<(), NoMemory>
     ensures { OnOk result (string_bytes page.new ≡ string_bytes page.old ++ open_front session stream corr) }
 {
-    put(page, "open ")?;
-    put_signed(page, session)?;
-    put(page, " stream ")?;
-    put_signed(page, stream as i64)?;
-    put(page, " corr ")?;
-    put_signed(page, corr)
+    put_value(page, "open ", session)?;
+    put_value32(page, " stream ", stream)?;
+    put_value(page, " corr ", corr)
 }
 
 fn put_open(page: &mut String, session: i64, stream: i32, corr: i64, stamp: i64, channel: &[u8]) -> Result<(), NoMemory>
     ensures { OnOk result (string_bytes page.new ≡ string_bytes page.old ++ open_text session stream corr stamp channel.now) }
 {
     put_open_front(page, session, stream, corr)?;
-    write!(page, " ts {stamp} channel ")?;
+    put_value(page, " ts ", stamp)?;
+    put(page, " channel ")?;
     put_hex(page, channel)
 }
 

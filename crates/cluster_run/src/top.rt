@@ -33,7 +33,10 @@ fn decide<I: Source>(alloc: Global, words: &[String], source: &mut I) -> Result<
         return Status::Usage.alone(alloc);
     }
     match take_all(alloc, source) {
-        Ok(bytes) => Answer::to(alloc, bytes.as_slice()),
+        Ok(bytes) => {
+            let answer = Answer::to(alloc, bytes.as_slice())?;
+            Ok(answer)
+        }
         Err(Unread::Failed) => Status::ReadFault.alone(alloc),
         Err(Unread::TooLong) => Status::TooLong.alone(alloc),
         Err(Unread::NoMemory) => Err(NoMemory),
