@@ -5,7 +5,7 @@ use Rattle.cl_base.specs.declared.fault.Trouble.{Trouble}
 use Rattle.cl_base.specs.declared.fault.Trouble.TheVariants as trouble
 use Rattle.scenario.specs.declared.fault.Refusal.{Refusal}
 use Rattle.cluster_run.specs.Answer.{IsAnswerTo, IsRefused, status_from, status_of}
-use Rattle.cluster_run.specs.Later.{reading_of}
+use Rattle.scenario.specs.Orders.{reading_of}
 use Rattle.cluster_run.specs.Form.{refusal_of}
 use Rattle.cluster_run.specs.Status.{ended, IsOrGivesUp, status_text}
 use Rattle.cluster_run.specs.Top.{IsDecided, Unasked, Unread, Longer, Read, IsRefusal, refusal}

@@ -2,7 +2,7 @@
 use Rattle.std.specs.Prelude.{◌≡◌, ℕ, List, [], Option, Some, None}
 use Rattle.scenario.specs.declared.fault.Reading.{Reading}
 use Rattle.scenario.specs.declared.fault.Refusal.{Refusal}
-use Rattle.cluster_run.specs.Later.{reading_of}
+use Rattle.scenario.specs.Orders.{reading_of}
 use Rattle.cluster_run.specs.Form.{refusal_of}
 use Rattle.cluster_run.specs.Status.{status_text}
 use Rattle.cluster_run.specs.declared.status.Status.{Status}

@@ -73,7 +73,7 @@ run_text r =
 
 -- what owes a record
 abbrev pub origin_text : Origin → List ℕ
-origin_text (origin.Module entry) = decimal entry ++ codes " module"
+origin_text (origin.Module entry number) = decimal entry ++ codes " module"
 origin_text (origin.Service entry service number) = decimal entry ++ codes " service " ++ decimal service ++ codes " " ++ decimal number
 origin_text origin.Direct = codes "- direct"
 

@@ -1,10 +1,10 @@
 // What the program answers to a scenario.
 ghost use Rattle.std.specs.Prelude.{IfOk};
 
-use crate::Status;
 use crate::form::refusal_of;
-use crate::later::read;
+use crate::{Run, Status};
 use cl_base::{Bytes, NoMemory};
+use scenario::read;
 use std::alloc::Global;
 
 /// An answer and the text that goes with it.
@@ -31,7 +31,7 @@ impl Answer {
             .alone(alloc),
             None => Ok(Answer {
                 status: Status::Done,
-                text: Bytes::of(alloc, &[])?,
+                text: Run::written(alloc, reading.orders.as_slice())?,
             }),
         }
     }

@@ -2,20 +2,34 @@
 #![tactic(auto)]
 
 mod answer;
+mod clients;
 mod form;
-mod later;
+mod module;
+mod orders;
+mod owing;
 mod page;
+mod places;
 mod report;
+mod reporting;
+mod run;
 mod sections;
+mod sent;
+mod sessions;
 mod status;
 mod stream;
+#[cfg(test)]
+mod tests;
 mod text;
 mod top;
+mod whole;
 
 pub use answer::Answer;
+pub use module::{Module, Session};
 pub use report::{
     EntryLine, Kept, MemberEnd, Origin, RecordLine, Report, ServiceRun, SnapshotLine, StreamLines,
 };
+pub use run::Run;
+pub use sent::{OrderLine, Outcome, Sent};
 pub use status::Status;
 pub use stream::{Unread, give, take_all};
 pub use top::cluster_main;

@@ -30,8 +30,8 @@ pub struct ServiceRun {
 /// What owes a record that was sent to a client.
 #[derive(Clone, Copy, Debug, PartialEq, Eq)]
 pub enum Origin {
-    /// The module, at this entry.
-    Module { entry: u64 },
+    /// The module, at this entry. The number counts what it owes there, from 0.
+    Module { entry: u64, number: u64 },
     /// A service, at this entry. The number counts what it owes there, from 0.
     Service {
         entry: u64,
@@ -105,7 +105,7 @@ pub struct Report {
 }
 
 impl Report {
-    ghost use Rattle.std.specs.Prelude.{◌≡◌, IfOk};
+    ghost use Rattle.std.specs.Prelude.{◌≡◌, ◌++◌, IfOk, OnOk, string_bytes};
     ghost use Rattle.cluster_run.specs.Text.{report_text};
 
     /// The report as it is printed.
@@ -113,11 +113,18 @@ impl Report {
         ensures { IfOk result (λ text. text ≡ report_text self.now) }
     {
         let mut page = String::new(alloc);
-        put_log(&mut page, self.log.as_slice())?;
-        put_runs(&mut page, self.runs.as_slice())?;
-        put_streams(&mut page, self.streams.as_slice())?;
-        put_members(&mut page, self.members.as_slice())?;
-        put(&mut page, "done\n")?;
+        self.put(&mut page)?;
         Ok(Bytes::from_vec(page.into_bytes()))
+    }
+
+    /// The report behind what a page has.
+    pub(crate) fn put(&self, page: &mut String) -> Result<(), NoMemory>
+        ensures { OnOk result (string_bytes page.new ≡ string_bytes page.old ++ report_text self.now) }
+    {
+        put_log(page, self.log.as_slice())?;
+        put_runs(page, self.runs.as_slice())?;
+        put_streams(page, self.streams.as_slice())?;
+        put_members(page, self.members.as_slice())?;
+        put(page, "done\n")
     }
 }

@@ -42,7 +42,7 @@ fn put_origin(page: &mut String, origin: Origin) -> Result<(), NoMemory>
     ensures { OnOk result (string_bytes page.new ≡ string_bytes page.old ++ origin_text origin) }
 {
     match origin {
-        Origin::Module { entry } => write!(page, "{entry} module")?,
+        Origin::Module { entry, .. } => write!(page, "{entry} module")?,
         Origin::Service {
             entry,
             service,

@@ -1,0 +1,192 @@
+// One member with the echo service, over a log in memory.
+use crate::owing::take_entries;
+use crate::places::{end_behind, term_of};
+use crate::{Module, OrderLine, Sent};
+use cl_base::limits::{LOG_LIMIT, ROUND_MS, STATUS_INTERVAL_MS};
+use cl_base::{List, NoMemory};
+use election::{Election, ElectionEvent, State};
+use entry_log::LogName;
+use sbe_events::Event;
+use service_api::{Echo, Service};
+use std::alloc::Global;
+
+/// The most bytes of a log, and the most milliseconds. What would go beyond finds no memory.
+const MOST: u64 = 1 << 48;
+
+/// One member and its clients while orders are run.
+#[derive(Drop)]
+pub struct Run {
+    pub(crate) alloc: Global,
+    /// In ms.
+    pub(crate) clock: u64,
+    pub(crate) election: Election,
+    pub(crate) log: List<Event>,
+    /// The term of the log's last entry, and where the log ends.
+    pub(crate) name: LogName,
+    /// Where the leader's own new term event ends.
+    pub(crate) own_end: u64,
+    /// How many entries are committed, and where they end.
+    pub(crate) commit: u64,
+    pub(crate) commit_place: u64,
+    /// How many entries the service has taken.
+    pub(crate) consumed: u64,
+    pub(crate) echo: Echo,
+    /// The module after the entries that were taken, and after the whole log.
+    pub(crate) committed: Module,
+    pub(crate) tentative: Module,
+    pub(crate) sent: List<Sent>,
+    pub(crate) told: List<OrderLine>,
+    /// How many connects each client has sent.
+    pub(crate) connects: [u64; 64],
+}
+
+impl Run {
+    ghost use Rattle.std.specs.Prelude.{◌≡◌, ◌++◌, ◌∷◌, [], OnOk, IfOk, ◌≤◌, ◌^◌};
+    ghost use Rattle.cluster_run.specs.Driver.{IsSafe};
+    ghost use Rattle.cluster_run.specs.Module.{place_of};
+    ghost use Rattle.cluster_run.specs.World.{first_world, with_member, committed_world, turn, phase, round, rounds};
+    ghost use Rattle.cluster_run.specs.LeaderRows.{appends, begins_reign, leads};
+
+    pub(crate) fn new(alloc: Global) -> Result<Run, NoMemory>
+        ensures kept { IfOk result IsSafe }
+    {
+        let echo = Echo::start(alloc)?;
+        Ok(Run {
+            alloc,
+            clock: 0,
+            election: Election::new(0, 1, -1, None),
+            log: List::new(alloc),
+            name: LogName { term: -1, place: 0 },
+            own_end: 0,
+            commit: 0,
+            commit_place: 0,
+            consumed: 0,
+            echo,
+            committed: Module::new(alloc),
+            tentative: Module::new(alloc),
+            sent: List::new(alloc),
+            told: List::new(alloc),
+            connects: [0; 64],
+        })
+    }
+
+    /// Row P19: an entry that ends here is appended.
+    pub(crate) fn append(&mut self, event: Event, end: u64) -> Result<(), NoMemory>
+        requires kept { IsSafe self.old }
+        ensures kept { OnOk result (IsSafe self.new) }
+    {
+        self.tentative.apply(self.alloc, &event)?;
+        self.name = LogName {
+            term: term_of(&event),
+            place: end,
+        };
+        self.log.push(event)
+    }
+
+    /// Row P10.
+    fn begin_reign(&mut self) -> Result<(), NoMemory>
+        requires kept { IsSafe self.old }
+        requires moment { self.old.clock ≤ 2 ^ 48 }
+        ensures kept { OnOk result (IsSafe self.new) }
+    {
+        if self.name.place > MOST {
+            return Err(NoMemory);
+        }
+        let place = self.name.place as i64;
+        let event = Event::Term {
+            term: self.election.term,
+            position: place,
+            stamp: self.clock as i64,
+            base: place,
+            leader: self.election.id as i32,
+        };
+        let end = end_behind(self.name.place, &event)?;
+        if end > LOG_LIMIT {
+            self.election.enter_canvass(self.clock);
+            return Ok(());
+        }
+        let next = self.clock + STATUS_INTERVAL_MS;
+        self.append(event, end)?;
+        self.own_end = end;
+        self.election.state = State::LeaderReady;
+        self.election.next = next;
+        Ok(())
+    }
+
+    /// Row P15: with no others each entry of its log is committed once its own new term event is in it.
+    fn lead(&mut self)
+        requires kept { IsSafe self.old }
+        requires moment { self.old.clock ≤ 2 ^ 48 }
+        ensures kept { IsSafe self.new }
+    {
+        if self.election.next <= self.clock {
+            self.election.next = self.clock + STATUS_INTERVAL_MS;
+        }
+        if self.own_end <= self.name.place {
+            self.commit = self.log.len() as u64;
+            self.commit_place = self.name.place;
+        }
+    }
+
+    /// The one row of its state.
+    fn turn(&mut self) -> Result<(), NoMemory>
+        requires kept { IsSafe self.old }
+        requires moment { self.old.clock ≤ 2 ^ 48 }
+        ensures kept { OnOk result (IsSafe self.new) }
+    {
+        match self.election.state {
+            State::LeaderInit => self.begin_reign(),
+            State::LeaderReady => {
+                self.lead();
+                Ok(())
+            }
+            _ => {
+                let own = self.name;
+                let _ = self.election.step(ElectionEvent::Duty { own }, self.clock);
+                Ok(())
+            }
+        }
+    }
+
+    /// The service takes what is committed, and what that owes is sent.
+    fn phase(&mut self) -> Result<(), NoMemory>
+        requires kept { IsSafe self.old }
+        ensures kept { OnOk result (IsSafe self.new) }
+    {
+        let (from, to) = (self.consumed, self.commit);
+        take_entries(
+            self.alloc,
+            &self.election,
+            &mut self.echo,
+            &mut self.committed,
+            from,
+            &self.log.as_slice()[from as usize..to as usize],
+            &mut self.sent,
+        )?;
+        self.consumed = to;
+        Ok(())
+    }
+
+    /// 10 ms pass, the member has its turn, and then its phase.
+    fn round(&mut self) -> Result<(), NoMemory>
+        requires kept { IsSafe self.old }
+        ensures kept { OnOk result (IsSafe self.new) }
+    {
+        if self.clock > MOST - ROUND_MS {
+            return Err(NoMemory);
+        }
+        self.clock += ROUND_MS;
+        self.turn()?;
+        self.phase()
+    }
+
+    pub(crate) fn rounds(&mut self, count: u64) -> Result<(), NoMemory>
+        requires kept { IsSafe self.old }
+        ensures kept { OnOk result (IsSafe self.new) }
+    {
+        'each: for _ in 0..count {
+            self.round()?;
+        }
+        Ok(())
+    }
+}
