@@ -104,7 +104,7 @@ or_read_fault s x gives = ⊎_elim (λ read. inr read) (λ up. inl (inr up)) giv
 module _ {T : Type 0} (run tells : Bool) (had left : List ℕ) (old new : ℕ) (a : Answer) (d : IsDecided run tells had left old new a) (r : Result T Trouble) where
   decided_meant : IsMeant a.status
   decided_meant = elim d [
-      Unasked denied is ↦ subst (λ (b : Answer). IsMeant b.status) (sym is) tt
+    | Unasked denied is ↦ subst (λ (b : Answer). IsMeant b.status) (sym is) tt
     | Unread wanted rose is ↦ subst (λ (b : Answer). IsMeant b.status) (sym is) tt
     | Longer wanted longer is ↦ subst (λ (b : Answer). IsMeant b.status) (sym is) tt
     | Read wanted bytes short told is ↦ subst IsMeant (sym is.status) (read_meant _ (status_read bytes))
@@ -112,7 +112,7 @@ module _ {T : Type 0} (run tells : Bool) (had left : List ℕ) (old new : ℕ) (
 
   pub usage : ended a.status r ≡ status.Usage → run ≡ false
   usage e = let m : a.status ≡ status.Usage = was_meant _ _ r e tt in elim d [
-      Unasked denied is ↦ denied
+    | Unasked denied is ↦ denied
     | Unread wanted rose is ↦ let s : a.status ≡ status.ReadFault = ap (λ (b : Answer). b.status) is in cc
     | Longer wanted longer is ↦ let s : a.status ≡ status.TooLong = ap (λ (b : Answer). b.status) is in cc
     | Read wanted bytes short told is ↦ absurd (subst IsRead (sym is.status ∙ m) (status_read bytes))
@@ -120,7 +120,7 @@ module _ {T : Type 0} (run tells : Bool) (had left : List ℕ) (old new : ℕ) (
 
   pub usage_exactly : run ≡ false → IsOrGivesUp (ended a.status r) status.Usage
   usage_exactly not_run = elim d [
-      Unasked denied is ↦ subst (IsOrGivesUp (ended a.status r)) (ap (λ (b : Answer). b.status) is) (ends a.status r)
+    | Unasked denied is ↦ subst (IsOrGivesUp (ended a.status r)) (ap (λ (b : Answer). b.status) is) (ends a.status r)
     | Unread wanted rose is ↦ absurd (cc)
     | Longer wanted longer is ↦ absurd (cc)
     | Read wanted bytes short told is ↦ absurd (cc)
@@ -128,7 +128,7 @@ module _ {T : Type 0} (run tells : Bool) (had left : List ℕ) (old new : ℕ) (
 
   pub read_fault : ended a.status r ≡ status.ReadFault → Rose old new
   read_fault e = let m : a.status ≡ status.ReadFault = was_meant _ _ r e tt in elim d [
-      Unasked denied is ↦ let s : a.status ≡ status.Usage = ap (λ (b : Answer). b.status) is in absurd (cc)
+    | Unasked denied is ↦ let s : a.status ≡ status.Usage = ap (λ (b : Answer). b.status) is in absurd (cc)
     | Unread wanted rose is ↦ rose
     | Longer wanted longer is ↦ let s : a.status ≡ status.TooLong = ap (λ (b : Answer). b.status) is in absurd (cc)
     | Read wanted bytes short told is ↦ absurd (subst IsRead (sym is.status ∙ m) (status_read bytes))
@@ -136,7 +136,7 @@ module _ {T : Type 0} (run tells : Bool) (had left : List ℕ) (old new : ℕ) (
 
   pub too_long : IsTrue tells → ended a.status r ≡ status.TooLong → 1048576 < length had
   too_long t e = let m : a.status ≡ status.TooLong = was_meant _ _ r e tt in elim d [
-      Unasked denied is ↦ let s : a.status ≡ status.Usage = ap (λ (b : Answer). b.status) is in absurd (cc)
+    | Unasked denied is ↦ let s : a.status ≡ status.Usage = ap (λ (b : Answer). b.status) is in absurd (cc)
     | Unread wanted rose is ↦ let s : a.status ≡ status.ReadFault = ap (λ (b : Answer). b.status) is in absurd (cc)
     | Longer wanted longer is ↦ longer t
     | Read wanted bytes short told is ↦ absurd (subst IsRead (sym is.status ∙ m) (status_read bytes))
@@ -144,7 +144,7 @@ module _ {T : Type 0} (run tells : Bool) (had left : List ℕ) (old new : ℕ) (
 
   pub too_long_exactly : IsTrue tells → run ≡ true → 1048576 < length had → (IsOrGivesUp (ended a.status r) status.TooLong) ⊎ (ended a.status r ≡ status.ReadFault)
   too_long_exactly t asked more = elim d [
-      Unasked denied is ↦ absurd (cc)
+    | Unasked denied is ↦ absurd (cc)
     | Unread wanted rose is ↦ or_read_fault _ _ (subst (IsOrGivesUp (ended a.status r)) (ap (λ (b : Answer). b.status) is) (ends a.status r))
     | Longer wanted longer is ↦ inl (subst (IsOrGivesUp (ended a.status r)) (ap (λ (b : Answer). b.status) is) (ends a.status r))
     | Read wanted bytes short told is ↦ let same : length bytes ≡ length had = ap length (told t).0 in absurd (omega arith)
@@ -152,7 +152,7 @@ module _ {T : Type 0} (run tells : Bool) (had left : List ℕ) (old new : ℕ) (
 
   pub refused : IsTrue tells → IsRefused (ended a.status r) → status_of had ≡ ended a.status r
   refused t line = let m : a.status ≡ ended a.status r = was_meant _ _ r refl (refused_meant _ line) in let given : IsRefused a.status = subst IsRefused (sym m) line in elim d [
-      Unasked denied is ↦ absurd (subst (λ (b : Answer). IsRefused b.status) is given)
+    | Unasked denied is ↦ absurd (subst (λ (b : Answer). IsRefused b.status) is given)
     | Unread wanted rose is ↦ absurd (subst (λ (b : Answer). IsRefused b.status) is given)
     | Longer wanted longer is ↦ absurd (subst (λ (b : Answer). IsRefused b.status) is given)
     | Read wanted bytes short told is ↦ sym (ap status_of (told t).0) ∙ sym is.status ∙ m
@@ -160,7 +160,7 @@ module _ {T : Type 0} (run tells : Bool) (had left : List ℕ) (old new : ℕ) (
 
   pub scenario : IsTrue tells → run ≡ true → length had ≤ 1048576 → (IsOrGivesUp (ended a.status r) (status_of had)) ⊎ (ended a.status r ≡ status.ReadFault)
   scenario t asked within = elim d [
-      Unasked denied is ↦ absurd (cc)
+    | Unasked denied is ↦ absurd (cc)
     | Unread wanted rose is ↦ or_read_fault _ _ (subst (IsOrGivesUp (ended a.status r)) (ap (λ (b : Answer). b.status) is) (ends a.status r))
     | Longer wanted longer is ↦ absurd (omega (arith, longer t))
     | Read wanted bytes short told is ↦ inl (subst (IsOrGivesUp (ended a.status r)) (is.status ∙ ap status_of (told t).0) (ends a.status r))
@@ -175,20 +175,20 @@ module _ {T : Type 0} (run tells : Bool) (had left : List ℕ) (old new : ℕ) (
 
   pub done : IsTrue tells → ended a.status r ≡ status.Done → IsDone
   done t e = let m : a.status ≡ status.Done = was_meant _ _ r e tt in elim d [
-      Unasked denied is ↦ let s : a.status ≡ status.Usage = ap (λ (b : Answer). b.status) is in absurd (cc)
+    | Unasked denied is ↦ let s : a.status ≡ status.Usage = ap (λ (b : Answer). b.status) is in absurd (cc)
     | Unread wanted rose is ↦ let s : a.status ≡ status.ReadFault = ap (λ (b : Answer). b.status) is in absurd (cc)
     | Longer wanted longer is ↦ let s : a.status ≡ status.TooLong = ap (λ (b : Answer). b.status) is in absurd (cc)
     | Read wanted bytes short told is ↦ record {
-        asked = wanted;
-        status = sym (ap status_of (told t).0) ∙ sym is.status ∙ m;
-        end = (told t).1;
-        within = subst (λ (xs : List ℕ). length xs ≤ 1048576) (told t).0 short;
-      }
+      asked = wanted;
+      status = sym (ap status_of (told t).0) ∙ sym is.status ∙ m;
+      end = (told t).1;
+      within = subst (λ (xs : List ℕ). length xs ≤ 1048576) (told t).0 short;
+    }
   ]
 
   line_text : IsRefusal a.status → a.text ≡ status_text a.status
   line_text line = elim d [
-      Unasked denied is ↦ subst (λ (b : Answer). b.text ≡ status_text b.status) (sym is) refl
+    | Unasked denied is ↦ subst (λ (b : Answer). b.text ≡ status_text b.status) (sym is) refl
     | Unread wanted rose is ↦ subst (λ (b : Answer). b.text ≡ status_text b.status) (sym is) refl
     | Longer wanted longer is ↦ subst (λ (b : Answer). b.text ≡ status_text b.status) (sym is) refl
     | Read wanted bytes short told is ↦ is.line (refusal_refused _ (subst IsRead (sym is.status) (status_read bytes)) line)

@@ -83,7 +83,7 @@ appends m e = record m { log = m.log ++ e ∷ [] }
 -- a duty: the one row of the state in which it began
 abbrev pub duty_of : Member → List Event → ℕ → Member
 duty_of m due now = elim m.election.state [
-    LeaderInit ↦ begins_reign m now
+  | LeaderInit ↦ begins_reign m now
   | LeaderReady ↦ leads m due now
   | _ ↦ record m { election = (duty m.election.state m.election (name_of m.log) now).election }
 ]

@@ -42,8 +42,7 @@ impl Module {
         }
     }
 
-    fn open(&mut self, session: Session) -> Result<(), NoMemory>
-    {
+    fn open(&mut self, session: Session) -> Result<(), NoMemory> {
         if self.next_id >= NUMBER_LIMIT as i64 {
             return Err(NoMemory);
         }
@@ -52,16 +51,14 @@ impl Module {
         Ok(())
     }
 
-    fn close(&mut self, alloc: Global, id: i64) -> Result<(), NoMemory>
-    {
+    fn close(&mut self, alloc: Global, id: i64) -> Result<(), NoMemory> {
         let sessions = without(alloc, self.sessions.as_slice(), id)?;
         self.sessions = sessions;
         Ok(())
     }
 
     /// Goes on by one event.
-    pub fn apply(&mut self, alloc: Global, event: &Event) -> Result<(), NoMemory>
-    {
+    pub fn apply(&mut self, alloc: Global, event: &Event) -> Result<(), NoMemory> {
         match event {
             Event::Term { leader, .. } => {
                 self.leader = *leader;
@@ -83,8 +80,7 @@ impl Module {
     }
 
     /// The session of this number, where it is open.
-    pub fn session(&self, id: i64) -> Option<Session>
-    {
+    pub fn session(&self, id: i64) -> Option<Session> {
         session_among(self.sessions.as_slice(), id)
     }
 }

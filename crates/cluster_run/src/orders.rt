@@ -140,7 +140,10 @@ impl Run {
                 }
             }
             Order::Send {
-                line, client, text, ..
+                line,
+                client,
+                text,
+                ..
             } => {
                 if *client < 64 {
                     self.send(*line, *client, text)

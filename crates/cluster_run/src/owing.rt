@@ -19,8 +19,7 @@ fn put_new_leader(
     term: i64,
     leader: i32,
     sent: &mut List<Sent>,
-) -> Result<(), NoMemory>
-{
+) -> Result<(), NoMemory> {
     for (i, s) in sessions.iter().enumerate() {
         let number = i as u64;
         sent.push(Sent {
@@ -41,8 +40,7 @@ fn put_session(
     entry: u64,
     egress: Egress,
     sent: &mut List<Sent>,
-) -> Result<(), NoMemory>
-{
+) -> Result<(), NoMemory> {
     sent.push(Sent {
         stream,
         origin: Origin::Module { entry, number: 0 },
@@ -56,8 +54,7 @@ fn put_closed(
     term: i64,
     leader: i32,
     sent: &mut List<Sent>,
-) -> Result<(), NoMemory>
-{
+) -> Result<(), NoMemory> {
     match found {
         Some(s) => put_session(
             s.stream,
@@ -81,8 +78,7 @@ fn put_module_owed(
     entry: u64,
     event: &Event,
     sent: &mut List<Sent>,
-) -> Result<(), NoMemory>
-{
+) -> Result<(), NoMemory> {
     match event {
         Event::Term { term, leader, .. } => {
             put_new_leader(module.sessions.as_slice(), entry, *term, *leader, sent)
@@ -121,8 +117,7 @@ fn put_given(
     session: i64,
     payload: &Bytes,
     sent: &mut List<Sent>,
-) -> Result<u64, NoMemory>
-{
+) -> Result<u64, NoMemory> {
     match found {
         Some(s) => {
             if payload.len() > PAYLOAD_LIMIT {
@@ -160,8 +155,7 @@ fn put_outputs(
     service: u8,
     outputs: &[Output],
     sent: &mut List<Sent>,
-) -> Result<(), NoMemory>
-{
+) -> Result<(), NoMemory> {
     let mut number = 0;
     for output in outputs {
         if let Output::Egress { session, payload } = output {
@@ -171,7 +165,9 @@ fn put_outputs(
                 number,
             };
             let found = module.session(*session);
-            let owed = put_given(found, origin, head.term, head.stamp, *session, payload, sent)?;
+            let owed = put_given(
+                found, origin, head.term, head.stamp, *session, payload, sent,
+            )?;
             number = number.saturating_add(owed);
         }
     }
@@ -202,8 +198,7 @@ pub(crate) fn take_entry(
     entry: u64,
     event: &Event,
     sent: &mut List<Sent>,
-) -> Result<(), NoMemory>
-{
+) -> Result<(), NoMemory> {
     let head = head_of(entry, event);
     let leads = leads_in(election, head.term);
     if leads {

@@ -31,7 +31,10 @@ pub struct ServiceRun {
 #[derive(Clone, Copy, Debug, PartialEq, Eq)]
 pub enum Origin {
     /// The module, at this entry. The number counts what it owes there, from 0.
-    Module { entry: u64, number: u64 },
+    Module {
+        entry: u64,
+        number: u64,
+    },
     /// A service, at this entry. The number counts what it owes there, from 0.
     Service {
         entry: u64,

@@ -147,8 +147,7 @@ fn records_on(alloc: Global, stream: u64, sent: &[Sent]) -> Result<List<RecordLi
 }
 
 /// The streams of the clients that have a record.
-pub(crate) fn streams(alloc: Global, sent: &[Sent]) -> Result<List<StreamLines>, NoMemory>
-{
+pub(crate) fn streams(alloc: Global, sent: &[Sent]) -> Result<List<StreamLines>, NoMemory> {
     let mut streams = List::new(alloc);
     for k in 0..64u64 {
         let records = records_on(alloc, k, sent)?;
@@ -188,8 +187,7 @@ fn put_order(page: &mut String, order: &OrderLine) -> Result<(), NoMemory>
 }
 
 /// What became of the orders that were answered.
-pub(crate) fn put_orders(page: &mut String, orders: &[OrderLine]) -> Result<(), NoMemory>
-{
+pub(crate) fn put_orders(page: &mut String, orders: &[OrderLine]) -> Result<(), NoMemory> {
     for order in orders {
         put_order(page, order)?;
     }

@@ -7,8 +7,7 @@ use cl_base::{List, NoMemory};
 use std::alloc::Global;
 
 /// The first session of this number.
-pub(crate) fn session_among(sessions: &[Session], id: i64) -> Option<Session>
-{
+pub(crate) fn session_among(sessions: &[Session], id: i64) -> Option<Session> {
     sessions.iter().find(|s| s.id == id).copied()
 }
 
@@ -17,8 +16,7 @@ pub(crate) fn without(
     alloc: Global,
     sessions: &[Session],
     id: i64,
-) -> Result<List<Session>, NoMemory>
-{
+) -> Result<List<Session>, NoMemory> {
     let mut kept = List::new(alloc);
     for s in sessions {
         if s.id != id {

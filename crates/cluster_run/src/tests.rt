@@ -4,7 +4,8 @@ use cl_base::{MemSink, MemSource};
 use scenario::Cause;
 use std::test::Fail;
 
-const ECHO: &str = "members 1\nservice echo\nrounds 40\nconnect 0 0\nrounds 1\nsend 0 0 hi\nrounds 1\n";
+const ECHO: &str =
+    "members 1\nservice echo\nrounds 40\nconnect 0 0\nrounds 1\nsend 0 0 hi\nrounds 1\n";
 
 const WRITTEN: &str = "order 4 accepted 1
 order 6 accepted 2
@@ -90,7 +91,15 @@ fn each_answer_with_its_text(rt: HostRuntime) -> Result<(), Fail> {
         let source_fails = calls(&rt, &[source_fails])?;
         let sink_fails = calls(&rt, &[sink_fails])?;
         let scenario = bytes(&rt, scenario)?;
-        answers(&rt, &[word], scenario, source_fails, sink_fails, status, written)?;
+        answers(
+            &rt,
+            &[word],
+            scenario,
+            source_fails,
+            sink_fails,
+            status,
+            written,
+        )?;
     }
     Ok(())
 }
@@ -101,7 +110,15 @@ fn words_that_are_no_command(rt: HostRuntime) -> Result<(), Fail> {
     for words in table {
         let scenario = bytes(&rt, ECHO)?;
         let (source_fails, sink_fails) = (calls(&rt, &[])?, calls(&rt, &[])?);
-        answers(&rt, words, scenario, source_fails, sink_fails, Status::Usage, USAGE)?;
+        answers(
+            &rt,
+            words,
+            scenario,
+            source_fails,
+            sink_fails,
+            Status::Usage,
+            USAGE,
+        )?;
     }
     Ok(())
 }
@@ -111,5 +128,13 @@ fn a_byte_too_many(rt: HostRuntime) -> Result<(), Fail> {
     let scenario = vec![in rt.alloc(); b' '; 1_048_577]?;
     let written = "scenario longer than 1048576 bytes\n";
     let (source_fails, sink_fails) = (calls(&rt, &[])?, calls(&rt, &[])?);
-    answers(&rt, &["run"], scenario, source_fails, sink_fails, Status::TooLong, written)
+    answers(
+        &rt,
+        &["run"],
+        scenario,
+        source_fails,
+        sink_fails,
+        Status::TooLong,
+        written,
+    )
 }

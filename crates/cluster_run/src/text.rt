@@ -24,7 +24,14 @@ fn put_open_front(page: &mut String, session: i64, stream: i32, corr: i64) -> Re
     put_value(page, " corr ", corr)
 }
 
-fn put_open(page: &mut String, session: i64, stream: i32, corr: i64, stamp: i64, channel: &[u8]) -> Result<(), NoMemory>
+fn put_open(
+    page: &mut String,
+    session: i64,
+    stream: i32,
+    corr: i64,
+    stamp: i64,
+    channel: &[u8],
+) -> Result<(), NoMemory>
     ensures { OnOk result (string_bytes page.new ≡ string_bytes page.old ++ open_text session stream corr stamp channel.now) }
 {
     put_open_front(page, session, stream, corr)?;
@@ -40,7 +47,13 @@ fn put_message(page: &mut String, session: i64, stamp: i64, payload: &[u8]) -> R
     put_hex(page, payload)
 }
 
-fn put_service(page: &mut String, service: u8, number: i64, stamp: i64, payload: &[u8]) -> Result<(), NoMemory>
+fn put_service(
+    page: &mut String,
+    service: u8,
+    number: i64,
+    stamp: i64,
+    payload: &[u8],
+) -> Result<(), NoMemory>
     ensures { OnOk result (string_bytes page.new ≡ string_bytes page.old ++ service_text service number stamp payload.now) }
 {
     write!(page, "service {service} {number} ts {stamp} ")?;
@@ -72,12 +85,40 @@ fn put_event(page: &mut String, event: &Event) -> Result<(), NoMemory>
     ensures { OnOk result (string_bytes page.new ≡ string_bytes page.old ++ event_text event.now) }
 {
     match event {
-        Event::Term { stamp, base, leader, .. } => put_term(page, *leader, *base, *stamp),
-        Event::Opened { corr, session, stamp, stream, channel, .. } => put_open(page, *session, *stream, *corr, *stamp, channel.as_slice()),
-        Event::Message { session, stamp, payload, .. } => put_message(page, *session, *stamp, payload.as_slice()),
-        Event::ServiceMessage { service, number, stamp, payload, .. } => put_service(page, *service, *number, *stamp, payload.as_slice()),
+        Event::Term {
+            stamp,
+            base,
+            leader,
+            ..
+        } => put_term(page, *leader, *base, *stamp),
+        Event::Opened {
+            corr,
+            session,
+            stamp,
+            stream,
+            channel,
+            ..
+        } => put_open(page, *session, *stream, *corr, *stamp, channel.as_slice()),
+        Event::Message {
+            session,
+            stamp,
+            payload,
+            ..
+        } => put_message(page, *session, *stamp, payload.as_slice()),
+        Event::ServiceMessage {
+            service,
+            number,
+            stamp,
+            payload,
+            ..
+        } => put_service(page, *service, *number, *stamp, payload.as_slice()),
         Event::Timer { corr, stamp, .. } => put_timer(page, *corr, *stamp),
-        Event::Closed { session, stamp, reason, .. } => put_close(page, *session, *reason, *stamp),
+        Event::Closed {
+            session,
+            stamp,
+            reason,
+            ..
+        } => put_close(page, *session, *reason, *stamp),
         Event::Snapshot { stamp, .. } => put_snapshot_event(page, *stamp),
     }
 }
@@ -92,7 +133,11 @@ fn put_entry(page: &mut String, word: &str, entry: &EntryLine) -> Result<(), NoM
     Ok(())
 }
 
-pub(crate) fn put_entries(page: &mut String, word: &str, entries: &[EntryLine]) -> Result<(), NoMemory>
+pub(crate) fn put_entries(
+    page: &mut String,
+    word: &str,
+    entries: &[EntryLine],
+) -> Result<(), NoMemory>
     ensures { OnOk result (string_bytes page.new ≡ string_bytes page.old ++ entry_lines word.now entries.now) }
 {
     for entry in entries {

@@ -7,9 +7,8 @@ ghost use Rattle.cluster_run.specs.Streams.{IsPart};
 ghost use Rattle.cluster_run.specs.Top.{is_run, IsDecided, IsRefusal};
 ghost use Rattle.cluster_run.specs.declared.answer.Answer.{Answer};
 
-use crate::Answer;
 use crate::stream::{Unread, give, take_all};
-use crate::Status;
+use crate::{Answer, Status};
 use cl_base::limits::SCENARIO_LIMIT;
 use cl_base::{NoMemory, Sink, Source};
 use std::alloc::Global;

@@ -14,7 +14,11 @@ impl Run {
     fn member(&self) -> Result<MemberEnd, NoMemory>
         requires { IsSafe self.now }
     {
-        let own = numbered(self.alloc, self.commit, &self.log.as_slice()[self.commit as usize..])?;
+        let own = numbered(
+            self.alloc,
+            self.commit,
+            &self.log.as_slice()[self.commit as usize..],
+        )?;
         Ok(MemberEnd::Up {
             member: 0,
             commit: self.commit,
@@ -33,7 +37,11 @@ impl Run {
         requires { IsSafe self.now }
     {
         let log = numbered(self.alloc, 0, &self.log.as_slice()[..self.commit as usize])?;
-        let inputs = numbered(self.alloc, 0, &self.log.as_slice()[..self.consumed as usize])?;
+        let inputs = numbered(
+            self.alloc,
+            0,
+            &self.log.as_slice()[..self.consumed as usize],
+        )?;
         let mut runs = List::new(self.alloc);
         runs.push(ServiceRun {
             member: 0,
@@ -63,8 +71,7 @@ impl Run {
     }
 
     /// What a run of these orders writes.
-    pub(crate) fn written(alloc: Global, orders: &[Order]) -> Result<Bytes, NoMemory>
-    {
+    pub(crate) fn written(alloc: Global, orders: &[Order]) -> Result<Bytes, NoMemory> {
         let mut run = Run::new(alloc)?;
         run.steps(orders)?;
         run.text()
