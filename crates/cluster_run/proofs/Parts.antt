@@ -4,7 +4,7 @@ use Rattle.std.proofs.Math.Seq.{take-append-add}
 use Rattle.std.proofs.lemmas.List.{take-take, nil_from_length}
 
 -- a longer front is a front, and the front of the rest
-pub take-add : (xs : List ℕ) (i n : ℕ) → i ≤ length xs → take (i + n) xs ≡ take i xs ++ take n (drop i xs)
+pub take-add : {X : Type 0} (xs : List X) (i n : ℕ) → i ≤ length xs → take (i + n) xs ≡ take i xs ++ take n (drop i xs)
 take-add xs i n within =
     ap (λ k. take (k + n) xs) (sym (length-take-le i xs within))
     ∙ ap (take (length (take i xs) + n)) (sym (take-append-drop i xs))

@@ -80,10 +80,12 @@ leads m due now =
 abbrev pub appends : Member → Event → Member
 appends m e = record m { log = m.log ++ e ∷ [] }
 
+-- the row of a state
+abbrev pub duty_in : State → Member → List Event → ℕ → Member
+duty_in LeaderInit m due now = begins_reign m now
+duty_in LeaderReady m due now = leads m due now
+duty_in s m due now = record m { election = (duty s m.election (name_of m.log) now).election }
+
 -- a duty: the one row of the state in which it began
 abbrev pub duty_of : Member → List Event → ℕ → Member
-duty_of m due now = elim m.election.state [
-  | LeaderInit ↦ begins_reign m now
-  | LeaderReady ↦ leads m due now
-  | _ ↦ record m { election = (duty m.election.state m.election (name_of m.log) now).election }
-]
+duty_of m due now = duty_in m.election.state m due now

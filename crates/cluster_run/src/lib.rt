@@ -4,6 +4,7 @@
 mod answer;
 mod clients;
 mod form;
+mod laws;
 mod module;
 mod orders;
 mod owing;
@@ -15,6 +16,7 @@ mod run;
 mod sections;
 mod sent;
 mod sessions;
+mod spelled;
 mod status;
 mod stream;
 #[cfg(test)]
@@ -24,6 +26,7 @@ mod top;
 mod whole;
 
 pub use answer::Answer;
+pub use laws::consumes_a_front;
 pub use module::{Module, Session};
 pub use report::{
     EntryLine, Kept, MemberEnd, Origin, RecordLine, Report, ServiceRun, SnapshotLine, StreamLines,

@@ -4,6 +4,7 @@ ghost use Rattle.cluster_run.specs.Module.{term_of, stamp_of, module_after};
 ghost use Rattle.cluster_run.specs.World.{is_ready, leads_in, sent_at, sent_from};
 ghost use Rattle.cluster_run.specs.Owed.{new_leader_to, closed_to, owed_by_module, given_to, owed_outputs, owed_by_echo, owed};
 
+use crate::spelled::is_spelled;
 use crate::{Module, Origin, Sent, Session};
 use cl_base::limits::PAYLOAD_LIMIT;
 use cl_base::{Bytes, List, NoMemory};
@@ -206,7 +207,9 @@ pub(crate) fn take_entry(
     }
     module.apply(alloc, event)?;
     let mut outputs = List::new(alloc);
-    echo.apply(entry, event, &mut outputs)?;
+    if is_spelled(event) {
+        echo.apply(entry, event, &mut outputs)?;
+    }
     if leads {
         put_outputs(module, head, 0, outputs.as_slice(), sent)?;
     }
