@@ -8,3 +8,6 @@ mod write;
 
 pub use command::{Command, decode_command, encode_command};
 pub use piece::{Mark, Piece, decode_piece, encode_piece};
+
+#[cfg(test)]
+mod tests;
