@@ -34,7 +34,7 @@ use Rattle.scenario.proofs.LineLaws.{ended_cons}
 use Rattle.scenario.proofs.NumberLaws.{all_at}
 
 -- the line number changes nothing else
-same_forbidden : (m : ℕ) (told : Told) (o : Order) → forbidden told (at_line m o) ≡ forbidden told o
+pub same_forbidden : (m : ℕ) (told : Told) (o : Order) → forbidden told (at_line m o) ≡ forbidden told o
 unfolding forbidden in_range may_come
 same_forbidden m told (order.Members line n) = refl
 same_forbidden m told (order.Service line name) = refl
@@ -58,7 +58,7 @@ same_forbidden m told (order.Replay line a b k) = refl
 same_forbidden m told (order.FreeOn line) = refl
 same_forbidden m told (order.FreeOff line) = refl
 
-same_told : (m : ℕ) (told : Told) (o : Order) → told_after told (at_line m o) ≡ told_after told o
+pub same_told : (m : ℕ) (told : Told) (o : Order) → told_after told (at_line m o) ≡ told_after told o
 same_told m told (order.Members line n) = refl
 same_told m told (order.Service line name) = refl
 same_told m told (order.Rounds line n) = refl
@@ -185,7 +185,7 @@ unfolding spelled
 spelled_again n m text o e = by_again n m text (cut_word text) o e
 
 -- what is told, with an order more
-told_more : (before : List Order) (o : Order) → told_after (told_by before) o ≡ told_by (before ++ o ∷ [])
+pub told_more : (before : List Order) (o : Order) → told_after (told_by before) o ≡ told_by (before ++ o ∷ [])
 told_more before o = sym (simp (fold-append, length-append))
 
 unless_none : {A : Type 0} (f : Option Cause) (x y : A) → unless f x ≡ Ok y → (f ≡ None) × (x ≡ y)
@@ -271,7 +271,7 @@ order_line before after n line off e =
     let x = bind_ok (judged (told_by before) n line) _ after h in
     (x.0, x.1)
 
-order_after_is : (before : List Order) (n : ℕ) (line : List ℕ) (o : Order) → is_skipped line ≡ false → judged (told_by before) n line ≡ Ok o → orders_after before n line ≡ Ok (before ++ o ∷ [])
+pub order_after_is : (before : List Order) (n : ℕ) (line : List ℕ) (o : Order) → is_skipped line ≡ false → judged (told_by before) n line ≡ Ok o → orders_after before n line ≡ Ok (before ++ o ∷ [])
 unfolding orders_after
 order_after_is before n line o off e = rw (off, e) refl
 
@@ -288,7 +288,7 @@ at_end_any n m told e = elim (cases_Bool (nat_lt 0 told.services)) [
   | inr off ↦ let h = rw off at e in cc
 ]
 
-abbrev reading : List Order → Option Refusal → Reading
+abbrev pub reading : List Order → Option Refusal → Reading
 reading os f = record { orders = os; fault = f }
 
 -- the lines of orders that were read are read again

@@ -4,3 +4,5 @@ pub mod OrderLaws
 pub mod Canonical
 pub mod CanonicalLines
 pub mod Again
+pub mod MadeLines
+pub mod MadeAgain

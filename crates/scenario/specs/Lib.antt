@@ -6,5 +6,6 @@ pub mod Spelling
 pub mod Orders
 pub mod Printing
 pub mod Made
+pub mod MadeOrders
 pub mod Numbered
 pub mod Causes

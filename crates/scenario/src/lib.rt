@@ -16,6 +16,7 @@ mod told;
 mod words;
 
 pub use fault::{Cause, ParseFault, Reading, Refusal};
+pub use laws::{each_order_has_one_spelling, printing_is_read_again};
 pub use making::make;
 pub use order::{Named, Order};
 pub use printing::print;

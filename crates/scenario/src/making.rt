@@ -1,6 +1,9 @@
 // The generated scenario.
-ghost use Rattle.std.specs.Prelude.{◌≡◌, ◌<◌, ◌≤◌, ◌^◌, ◌++◌, IfOk, OnOk};
+ghost use Rattle.std.specs.Prelude.{◌≡◌, ◌<◌, ◌≤◌, ◌^◌, ◌++◌, None, IfOk, OnOk};
 ghost use Rattle.scenario.specs.Made.{message_text, pause, message_step, half, made};
+ghost use Rattle.scenario.specs.MadeOrders.{made_orders};
+ghost use Rattle.scenario.specs.Numbered.{numbered};
+ghost use Rattle.scenario.specs.Orders.{reading_of};
 
 use crate::printing::put_number;
 use cl_base::{Bytes, NoMemory};
@@ -58,12 +61,13 @@ fn put_half(out: &mut Vec<u8>, member: u64, from: u64, end: u64) -> Result<(), A
     Ok(())
 }
 
-/// The generated scenario of `n` messages, 1 to 20,000.
+/// The generated scenario of `n` messages, 1 to 20,000. It is read without a fault, as its orders, one on each line.
 #[tactic(auto, unfolding(crate::specs::Made::made))]
 pub fn make(alloc: Global, n: u64) -> Result<Bytes, NoMemory>
     requires low { 1 ≤ n }
     requires high { n ≤ 20000 }
-    ensures { IfOk result (λ text. text ≡ made n) }
+    ensures text { IfOk result (λ text. text ≡ made n) }
+    ensures parses { IfOk result (λ text. reading_of text ≡ record { orders = numbered 1 (made_orders n); fault = None }) }
 {
     let mut out = Vec::from_slice(alloc, HEAD.as_bytes())?;
     put_half(&mut out, 0, 0, n / 2)?;
