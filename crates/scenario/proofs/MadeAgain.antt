@@ -136,27 +136,67 @@ middle_fine told r rest le g next =
     let d = told_after c (order.Start 0 0) in
     let gd = going_start c (r + 5 + 300) gc in
     let e = told_after d (order.Rounds 0 100) in
-    let ge = going_rounds d (r + 5 + 300) 100 gd in
-    (rounds_read 5 (omega arith), rounds_allowed told r 5 refl (omega arith) g,
-    (stop_reads, stop_allowed a (r + 5) (omega arith) ga,
-    (rounds_read 300 (omega arith), rounds_allowed b (r + 5) 300 refl (omega arith) gb,
-    (start_reads, start_allowed c (r + 5 + 300) (omega arith) gc,
-    (rounds_read 100 (omega arith), rounds_allowed d (r + 5 + 300) 100 refl (omega arith) gd,
-    next e (wider e (r + 5 + 300 + 100) (r + 405) (omega arith) ge))))))
+    let ge = going_rounds d (r + 5 + 300) 100 gd in (
+      rounds_read 5 (omega arith),
+      rounds_allowed told r 5 refl (omega arith) g,
+      (
+        stop_reads,
+        stop_allowed a (r + 5) (omega arith) ga,
+        (
+          rounds_read 300 (omega arith),
+          rounds_allowed b (r + 5) 300 refl (omega arith) gb,
+          (
+            start_reads,
+            start_allowed c (r + 5 + 300) (omega arith) gc,
+            (
+              rounds_read 100 (omega arith),
+              rounds_allowed d (r + 5 + 300) 100 refl (omega arith) gd,
+              next e (wider e (r + 5 + 300 + 100) (r + 405) (omega arith) ge),
+            ),
+          ),
+        ),
+      ),
+    )
 
 head_fine : (rest : List Order) → ((t : Told) → Going t 65 → Fine t rest) → Fine (told_by []) (head_orders ++ rest)
 unfolding forbidden in_range may_come
-head_fine rest next =
-    (members_reads, refl,
-    (echo_reads, refl,
-    (ledger_reads, refl,
-    (rounds_read 60 (omega arith), refl,
-    (connect_reads 0 (omega arith), refl,
-    (connect_reads 1 (omega arith), refl,
-    (connect_reads 2 (omega arith), refl,
-    (connect_reads 3 (omega arith), refl,
-    (connect_reads 4 (omega arith), refl,
-    (rounds_read 5 (omega arith), refl, next _ (record { members = refl; services = refl; rounds = omega arith })))))))))))
+head_fine rest next = (
+  members_reads,
+  refl,
+  (
+    echo_reads,
+    refl,
+    (
+      ledger_reads,
+      refl,
+      (
+        rounds_read 60 (omega arith),
+        refl,
+        (
+          connect_reads 0 (omega arith),
+          refl,
+          (
+            connect_reads 1 (omega arith),
+            refl,
+            (
+              connect_reads 2 (omega arith),
+              refl,
+              (
+                connect_reads 3 (omega arith),
+                refl,
+                (
+                  connect_reads 4 (omega arith),
+                  refl,
+                  (rounds_read 5 (omega arith), refl, next _ (record { members = refl; services = refl; rounds = omega arith })),
+                ),
+              ),
+            ),
+          ),
+        ),
+      ),
+    ),
+  ),
+)
 
 made_fine : (n : ℕ) → n ≤ 20000 → Fine (told_by []) (made_orders n)
 unfolding made_orders
