@@ -2,6 +2,8 @@
 use crate::{Status, cluster_main};
 use cl_base::{MemSink, MemSource};
 use scenario::Cause;
+use std::alloc::Global;
+use std::process::Abort;
 use std::test::Fail;
 
 const ECHO: &str =
@@ -28,7 +30,8 @@ const USAGE: &str = "usage: clusterd run [--dir D] | check | make N [--dir D]\n"
 
 /// Runs the words over a source of these bytes. The source and the sink fail at these calls.
 fn answers(
-    rt: &HostRuntime,
+    rt: &impl Abort,
+    alloc: Global,
     words: &[&str],
     scenario: Vec<u8>,
     source_fails: Vec<u64>,
@@ -36,7 +39,6 @@ fn answers(
     status: Status,
     written: &str,
 ) -> Result<(), Fail> {
-    let alloc = rt.alloc();
     let mut list = Vec::new(alloc);
     for word in words {
         list.push(String::from_str(alloc, *word)?)?;
@@ -49,12 +51,12 @@ fn answers(
     Ok(())
 }
 
-fn bytes(rt: &HostRuntime, text: &str) -> Result<Vec<u8>, Fail> {
-    Ok(Vec::from_slice(rt.alloc(), text.as_bytes())?)
+fn bytes(alloc: Global, text: &str) -> Result<Vec<u8>, Fail> {
+    Ok(Vec::from_slice(alloc, text.as_bytes())?)
 }
 
-fn calls(rt: &HostRuntime, numbers: &[u64]) -> Result<Vec<u64>, Fail> {
-    Ok(Vec::from_slice(rt.alloc(), numbers)?)
+fn calls(alloc: Global, numbers: &[u64]) -> Result<Vec<u64>, Fail> {
+    Ok(Vec::from_slice(alloc, numbers)?)
 }
 
 #[test]
@@ -88,11 +90,12 @@ fn each_answer_with_its_text(rt: HostRuntime) -> Result<(), Fail> {
         ("check", ECHO, 0, 0, Status::Usage, USAGE),
     ];
     for (word, scenario, source_fails, sink_fails, status, written) in table {
-        let source_fails = calls(&rt, &[source_fails])?;
-        let sink_fails = calls(&rt, &[sink_fails])?;
-        let scenario = bytes(&rt, scenario)?;
+        let source_fails = calls(rt.alloc(), &[source_fails])?;
+        let sink_fails = calls(rt.alloc(), &[sink_fails])?;
+        let scenario = bytes(rt.alloc(), scenario)?;
         answers(
             &rt,
+            rt.alloc(),
             &[word],
             scenario,
             source_fails,
@@ -108,10 +111,11 @@ fn each_answer_with_its_text(rt: HostRuntime) -> Result<(), Fail> {
 fn words_that_are_no_command(rt: HostRuntime) -> Result<(), Fail> {
     let table: [&[&str]; 4] = [&[], &["run", "x"], &["make", "0"], &["run", "--dir"]];
     for words in table {
-        let scenario = bytes(&rt, ECHO)?;
-        let (source_fails, sink_fails) = (calls(&rt, &[])?, calls(&rt, &[])?);
+        let scenario = bytes(rt.alloc(), ECHO)?;
+        let (source_fails, sink_fails) = (calls(rt.alloc(), &[])?, calls(rt.alloc(), &[])?);
         answers(
             &rt,
+            rt.alloc(),
             words,
             scenario,
             source_fails,
@@ -127,9 +131,10 @@ fn words_that_are_no_command(rt: HostRuntime) -> Result<(), Fail> {
 fn a_byte_too_many(rt: HostRuntime) -> Result<(), Fail> {
     let scenario = vec![in rt.alloc(); b' '; 1_048_577]?;
     let written = "scenario longer than 1048576 bytes\n";
-    let (source_fails, sink_fails) = (calls(&rt, &[])?, calls(&rt, &[])?);
+    let (source_fails, sink_fails) = (calls(rt.alloc(), &[])?, calls(rt.alloc(), &[])?);
     answers(
         &rt,
+        rt.alloc(),
         &["run"],
         scenario,
         source_fails,
