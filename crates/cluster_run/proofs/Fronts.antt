@@ -30,11 +30,11 @@ record Grows (old new : Member) : Type 0 where
   goes_on : (n : ℕ) → n ≤ length old.log → take n new.log ≡ take n old.log
   rises : old.commit ≤ new.commit
 
-record IsSound (w : World) : Type 0 where
-  commit : w.member.commit ≤ length w.member.log
-  printed : w.printed ≡ take w.member.commit w.member.log
-  few : length w.inputs ≤ w.member.commit
-  inputs : w.inputs ≡ take (length w.inputs) w.member.log
+pub record IsSound (w : World) : Type 0 where
+  pub commit : w.member.commit ≤ length w.member.log
+  pub printed : w.printed ≡ take w.member.commit w.member.log
+  pub few : length w.inputs ≤ w.member.commit
+  pub inputs : w.inputs ≡ take (length w.inputs) w.member.log
 
 still : (m : Member) → Within m → (e : Election) → Grows m (record m { election = e })
 still m within e = record { within = within; front = refl; goes_on = λ n h. refl; rises = omega arith }
@@ -116,7 +116,7 @@ longer_front log m n order within = ⊎_elim
     ap (λ k. longer (take k log) (take n log)) same ∙ longer_same (take n log))
     (cases_lt m n)
 
-turn_sound : (w : World) → IsSound w → IsSound (turn w)
+pub turn_sound : (w : World) → IsSound w → IsSound (turn w)
 turn_sound w sound =
     let g = duty_grows w.member.election.state w.member w.now sound.commit in
     let m = duty_of w.member [] w.now in
@@ -127,7 +127,7 @@ turn_sound w sound =
       inputs = sound.inputs ∙ sym (g.goes_on (length w.inputs) (let few = sound.few in let within = sound.commit in omega arith));
     }
 
-phase_sound : (w : World) → IsSound w → IsSound (phase w)
+pub phase_sound : (w : World) → IsSound w → IsSound (phase w)
 phase_sound w sound =
     let n = length w.inputs in
     let few : n ≤ w.member.commit = sound.few in
@@ -178,7 +178,7 @@ still_sound w m sound keeps v member printed inputs = record {
   inputs = rw (member, inputs) (sound.inputs ∙ sym (keeps.goes_on (length w.inputs) (let few = sound.few in let within = sound.commit in omega arith)));
 }
 
-step_sound : (w : World) (o : Order) → IsSound w → IsSound (step w o)
+pub step_sound : (w : World) (o : Order) → IsSound w → IsSound (step w o)
 step_sound w (order.Rounds line n) sound = rounds_sound n w sound
 step_sound w (order.Connect line client member) sound = still_sound w _ sound (taken_keeps w.member sound.commit _ _) (connects_to line client w) refl refl refl
 step_sound w (order.Send line client member text) sound = still_sound w _ sound (taken_keeps w.member sound.commit _ _) (sends line client text w) refl refl refl

@@ -1,6 +1,7 @@
 pub mod Answer
 pub mod Driver
 pub mod Form
+pub mod Headline
 pub mod LeaderRows
 pub mod Module
 pub mod Owed
