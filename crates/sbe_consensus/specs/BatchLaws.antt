@@ -11,7 +11,7 @@ use Rattle.sbe_events.specs.Spelling as events
 use Rattle.sbe_events.specs.Laws.{event_free, free_event, event_term}
 use Rattle.sbe_consensus.specs.Spelling.{AreEntries, entries_bytes, part_end, part_at, parts_there, parts_end, shifted, events_fault, entries_at}
 
-or_none : (a b : Option Bad) → (a or_else b) ≡ None → (a ≡ None) × (b ≡ None)
+pub or_none : (a b : Option Bad) → (a or_else b) ≡ None → (a ≡ None) × (b ≡ None)
 or_none None b e = (refl, e)
 or_none (Some x) b e = absurd cc
 
@@ -19,7 +19,7 @@ or_both : (a b : Option Bad) → a ≡ None → b ≡ None → (a or_else b) ≡
 or_both None b p q = q
 or_both (Some x) b p q = absurd cc
 
-shifted_none : (by : ℕ) (o : Option Bad) → shifted by o ≡ None → o ≡ None
+pub shifted_none : (by : ℕ) (o : Option Bad) → shifted by o ≡ None → o ≡ None
 shifted_none by None e = refl
 shifted_none by (Some b) e = absurd cc
 

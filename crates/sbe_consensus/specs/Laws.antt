@@ -100,6 +100,15 @@ pub packet_there : (t : Template) (bytes : List ℕ) → Sound t bytes → packe
 unfolding packet_of
 packet_there t bytes s = ap (λ f. packet_from f (template_of bytes) bytes) (no_fault t bytes s) ∙ ap (λ o. packet_from None o bytes) s.here
 
+-- what was found in the bytes one after the other
+pub found_sound : (bytes : List ℕ) (h : Header) (t : Template) → header_of bytes ≡ Ok h → h ≡ numbers_of bytes → template_by h.template (is_announcement bytes) ≡ Some t → body_fault t bytes ≡ None → Sound t bytes
+unfolding first_fault
+found_sound bytes h t is_ok is is_template none =
+    let here : template_of bytes ≡ Some t = ap (λ (k : Header). template_by k.template (is_announcement bytes)) (sym is) ∙ is_template in
+    let free : first_fault bytes ≡ None = ap (λ r. header_fault r bytes) is_ok ∙ ap (λ o. template_fault o bytes) here ∙ none in
+    let s = sound bytes free in
+    record { long = s.1.long; schema = s.1.schema; here = here; free = none }
+
 -- ---- what bytes without a fault spell
 
 narrow_only : (n z : ℤ) → Between n n z → z ≡ n
@@ -284,7 +293,7 @@ unless_true : (b : Bool) (f : Bad) → b ≡ true → unless b f ≡ None
 unless_true true f e = refl
 unless_true false f e = absurd cc
 
-in_range : (z : ℤ) → Between (pos 1) (pos 64) z → (int_le (pos 1) z && int_le z (pos 64)) ≡ true
+pub in_range : (z : ℤ) → Between (pos 1) (pos 64) z → (int_le (pos 1) z && int_le z (pos 64)) ≡ true
 in_range z h = and_from (int_le (pos 1) z) (int_le z (pos 64)) (true_from (int_le (pos 1) z) h.0.le) (true_from (int_le z (pos 64)) h.1.le)
 
 count_back : (z : ℤ) → Between (pos 1) (pos 64) z → (1 ≤ unsigned_abs z) × (unsigned_abs z ≤ 64) × (z ≡ pos (unsigned_abs z))
@@ -324,7 +333,7 @@ module _ (bytes : List ℕ) where
   abbrev f6 : Option Bad
   f6 = unless (nat_le (length bytes) (parts_end (count_of bytes) 32 bytes)) (bad (parts_end (count_of bytes) 32 bytes) causes.Trailing)
 
-  is_batch : batch_fault bytes ≡ None → IsBatch bytes
+  pub is_batch : batch_fault bytes ≡ None → IsBatch bytes
   unfolding batch_fault strict_fault
   is_batch e =
       let e6 = or_none (f0 or_else f1 or_else f2 or_else f3 or_else f4 or_else f5) f6 e in

@@ -139,6 +139,10 @@ count_of bytes = unsigned_abs (i32_at 28 bytes)
 abbrev pub counts : List ℕ → Bool
 counts bytes = int_le (pos 1) (i32_at 28 bytes) && int_le (i32_at 28 bytes) (pos 64)
 
+-- the block is there, but not all the entries that it names
+abbrev pub lacks_entries : List ℕ → Bool
+lacks_entries bytes = ((u16_at 0 bytes == 24) && nat_le 32 (length bytes)) && (counts bytes && not (parts_there (count_of bytes) 32 bytes))
+
 -- ---- the first fault
 
 -- of a batch: the length of the block, the block, the entries where the count is in its range, the version, the numbers in rising place, the events, and a byte too many

@@ -1,0 +1,11 @@
+use Rattle.std.proofs.Common.{◌≡◌, ◌-◌, ◌≤◌, true, length}
+use Rattle.sbe_consensus.specs.Spelling.{parts_there, parts_end, events_fault}
+use Rattle.sbe_consensus.proofs.batch.events_end.Given as goal
+
+abbrev pub invariant-loop : goal.invariant-loop
+invariant-loop l = record {
+  within : l.at ≤ length l.bytes;
+  there : parts_there (l.count - l.counter) l.at l.bytes ≡ true;
+  end : parts_end (l.count - l.counter) l.at l.bytes ≡ parts_end l.count l.from l.bytes;
+  fault : events_fault (l.count - l.counter) l.at l.bytes ≡ events_fault l.count l.from l.bytes;
+}
