@@ -97,7 +97,7 @@ leader_all : (i j : ℕ) (term leader : ℤ) (ss : List Session) → All (IsModu
 leader_all i j term leader [] = All-nil (IsModules i j)
 leader_all i j term leader (s ∷ ss) =
     All-cons (IsModules i j) (news i j term leader s) (new_leader_to i (suc j) term leader ss) (modules_at i j (news i j term leader s) refl)
-        (All-weaker (IsModules i (suc j)) (IsModules i j) (modules_later i j) (new_leader_to i (suc j) term leader ss) (leader_all i (suc j) term leader ss))
+    (All-weaker (IsModules i (suc j)) (IsModules i j) (modules_later i j) (new_leader_to i (suc j) term leader ss) (leader_all i (suc j) term leader ss))
 
 number_later : (i j : ℕ) (s t : Sent) → s.origin ≡ origin.Module i j → IsModules i (suc j) t → IsOther s t
 number_later i j s t here p same =
@@ -216,11 +216,11 @@ paid_from election xs (e ∷ es) m n before place =
     let all = owed_all m n e in
     let self = All-contains_itself (owed m n e) in
     All-append (Paid election (xs ++ e ∷ es)) (sent_at election m n e) (sent_from election (module_after m e) (suc n) es)
-        (choice (All (Paid election (xs ++ e ∷ es))) (leads_in election (term_of e)) (owed m n e) []
-            (λ leads k d h. paid_one election xs e es m n before place leads (get_or (owed m n e) k d) (all.0 k d h) (self k d h))
-            (λ h. All-nil (Paid election (xs ++ e ∷ es))))
-        (subst (λ (log : List Event). All (Paid election log) (sent_from election (module_after m e) (suc n) es)) (append_assoc xs (e ∷ []) es)
-            (paid_from election (xs ++ e ∷ []) es (module_after m e) (suc n) next further))
+    (choice (All (Paid election (xs ++ e ∷ es))) (leads_in election (term_of e)) (owed m n e) []
+    (λ leads k d h. paid_one election xs e es m n before place leads (get_or (owed m n e) k d) (all.0 k d h) (self k d h))
+    (λ h. All-nil (Paid election (xs ++ e ∷ es))))
+    (subst (λ (log : List Event). All (Paid election log) (sent_from election (module_after m e) (suc n) es)) (append_assoc xs (e ∷ []) es)
+    (paid_from election (xs ++ e ∷ []) es (module_after m e) (suc n) next further))
 
 -- an entry stays where it is as the log goes on
 get_front : (xs ys : List Event) (i : ℕ) (e : Event) → slice_get xs i ≡ Some e → slice_get (xs ++ ys) i ≡ Some e

@@ -59,26 +59,26 @@ calm_if false m x y p q = q
 ends_calm : (m : Election) (own : LogName) (now : ℕ) → IsCalm m (canvass_ends m own now).election
 ends_calm m own now =
     calm_if (is_quorum m.members (1 + heard_count m.heard) && not (list_any (heard_better own) m.heard)) m
-        (record { election = record m { state = Nominate }; decision = D.Nominate })
-        (record { election = record m { deadline = now + 300 + 100 * m.id }; decision = D.CanvassAgain })
-        (record { id = refl; ready = λ r. absurd (false≢true r) })
-        (record { id = refl; ready = λ r. (r, refl) })
+    (record { election = record m { state = Nominate }; decision = D.Nominate })
+    (record { election = record m { deadline = now + 300 + 100 * m.id }; decision = D.CanvassAgain })
+    (record { id = refl; ready = λ r. absurd (false≢true r) })
+    (record { id = refl; ready = λ r. (r, refl) })
 
 in_canvass_calm : (m : Election) (own : LogName) (now : ℕ) → IsCalm m (in_canvass m own now).election
 in_canvass_calm m own now =
     let again : Turn = record { election = record m { next = now + 100 }; decision = D.Canvass } in
     calm_if (nat_le m.deadline now) m (canvass_ends m own now) (if nat_le m.next now then again else stays m) (ends_calm m own now)
-        (calm_if (nat_le m.next now) m again (stays m) (record { id = refl; ready = λ r. (r, refl) }) (calm_self m))
+    (calm_if (nat_le m.next now) m again (stays m) (record { id = refl; ready = λ r. (r, refl) }) (calm_self m))
 
 nominates_calm : (m : Election) (most : ℤ) (now : ℕ) → IsCalm m (nominates m most now).election
 nominates_calm m most now =
     calm_if (int_le (pos (2 ^ 62)) most) m (returns_to_canvass m now)
-        (record {
-          election = record m { candidate = most +ℤ pos 1; voted = Some m.id; votes = set (replicate 5 false) m.id true; deadline = now + 500; state = CandidateBallot };
-          decision = D.Request (most +ℤ pos 1);
-        })
-        (canvass_calm m now)
-        (record { id = refl; ready = λ r. absurd (false≢true r) })
+    (record {
+      election = record m { candidate = most +ℤ pos 1; voted = Some m.id; votes = set (replicate 5 false) m.id true; deadline = now + 500; state = CandidateBallot };
+      decision = D.Request (most +ℤ pos 1);
+    })
+    (canvass_calm m now)
+    (record { id = refl; ready = λ r. absurd (false≢true r) })
 
 follower_calm : (m : Election) (now : ℕ) → IsCalm m (in_follower_ballot m now).election
 follower_calm m now = calm_if (nat_le m.deadline now) m (returns_to_canvass m now) (stays m) (canvass_calm m now) (calm_self m)
@@ -86,10 +86,10 @@ follower_calm m now = calm_if (nat_le m.deadline now) m (returns_to_canvass m no
 candidate_calm : (m : Election) (now : ℕ) → IsCalm m (in_candidate_ballot m now).election
 candidate_calm m now =
     calm_if (is_quorum m.members (vote_count m.votes)) m
-        (record { election = record m { term = m.candidate; leader = Some m.id; state = LeaderInit }; decision = D.Lead })
-        (if nat_le m.deadline now then returns_to_canvass m now else stays m)
-        (record { id = refl; ready = λ r. absurd (false≢true r) })
-        (calm_if (nat_le m.deadline now) m (returns_to_canvass m now) (stays m) (canvass_calm m now) (calm_self m))
+    (record { election = record m { term = m.candidate; leader = Some m.id; state = LeaderInit }; decision = D.Lead })
+    (if nat_le m.deadline now then returns_to_canvass m now else stays m)
+    (record { id = refl; ready = λ r. absurd (false≢true r) })
+    (calm_if (nat_le m.deadline now) m (returns_to_canvass m now) (stays m) (canvass_calm m now) (calm_self m))
 
 duty_calm : (s : State) (m : Election) (own : LogName) (now : ℕ) → IsCalm m (duty s m own now).election
 duty_calm Init m own now = canvass_calm m now
@@ -114,32 +114,32 @@ begins_reigned : (m : Member) (now : ℕ) → IsReigned m → IsReigned (begins_
 begins_reigned m now r =
     let begun : reign_after (reign_of m.log) (new_term m now) ≡ reign_in m.election.term 0 = ap (reign_in m.election.term) r.id in
     choice IsReigned (nat_le (place_of (m.log ++ new_term m now ∷ [])) 16777216)
-        (record m {
-          election = record m.election { state = LeaderReady; next = now + 100 };
-          log = m.log ++ new_term m now ∷ [];
-          own_end = place_of (m.log ++ new_term m now ∷ []);
-          acked = map (λ a. None) m.acked;
-          last_heard = map (λ h. now) m.last_heard;
-        })
-        (record m { election = enter_canvass m.election now })
-        (λ h. record {
-          id = r.id;
-          current = λ ready. push_fold reign_after no_reign m.log (new_term m now) ∙ begun;
-          past = led_push no_reign m.log (new_term m now) r.past begun;
-        })
-        (λ h. calm_reigned m (enter_canvass m.election now) r (canvass_calm m.election now))
+    (record m {
+      election = record m.election { state = LeaderReady; next = now + 100 };
+      log = m.log ++ new_term m now ∷ [];
+      own_end = place_of (m.log ++ new_term m now ∷ []);
+      acked = map (λ a. None) m.acked;
+      last_heard = map (λ h. now) m.last_heard;
+    })
+    (record m { election = enter_canvass m.election now })
+    (λ h. record {
+      id = r.id;
+      current = λ ready. push_fold reign_after no_reign m.log (new_term m now) ∙ begun;
+      past = led_push no_reign m.log (new_term m now) r.past begun;
+    })
+    (λ h. calm_reigned m (enter_canvass m.election now) r (canvass_calm m.election now))
 
 leads_reigned : (m : Member) (now : ℕ) → IsReigned m → IsReigned (leads m [] now)
 leads_reigned m now r =
     choice IsReigned (is_quorum m.election.members (leader_heard m now))
-        (record m { election = record m.election { next = if nat_le m.election.next now then now + 100 else m.election.next }; commit = commit_after m; log = m.log ++ [] })
-        (record m { election = enter_canvass m.election now })
-        (λ h. record {
-          id = r.id;
-          current = λ ready. ap reign_of (append-nil m.log) ∙ r.current ready;
-          past = subst (IsLedBy (pos 0) no_reign) (sym (append-nil m.log)) r.past;
-        })
-        (λ h. calm_reigned m (enter_canvass m.election now) r (canvass_calm m.election now))
+    (record m { election = record m.election { next = if nat_le m.election.next now then now + 100 else m.election.next }; commit = commit_after m; log = m.log ++ [] })
+    (record m { election = enter_canvass m.election now })
+    (λ h. record {
+      id = r.id;
+      current = λ ready. ap reign_of (append-nil m.log) ∙ r.current ready;
+      past = subst (IsLedBy (pos 0) no_reign) (sym (append-nil m.log)) r.past;
+    })
+    (λ h. calm_reigned m (enter_canvass m.election now) r (canvass_calm m.election now))
 
 pub duty_reigned : (s : State) (m : Member) (now : ℕ) → IsReigned m → IsReigned (duty_in s m [] now)
 duty_reigned LeaderInit m now r = begins_reigned m now r

@@ -87,7 +87,7 @@ rounds_fine (suc n) past w f =
     let s = f.sound in
     let later : IsFine past v = record { sound = record { commit = s.commit; printed = s.printed; few = s.few; inputs = s.inputs }; reigned = f.reigned; owed = f.owed; led = f.led; apart = f.apart } in
     subst (λ (p : List World). IsFine p (rounds n (round w))) (append_assoc past (turn v ∷ []) (phases_in n (round w)))
-        (rounds_fine n (past ++ turn v ∷ []) (round w) (phase_fine past (turn v) (turn_fine past v later)))
+    (rounds_fine n (past ++ turn v ∷ []) (round w) (phase_fine past (turn v) (turn_fine past v later)))
 
 abbrev IsDirect : Sent → Type 0
 IsDirect s = entry_of s.origin ≡ None
@@ -150,7 +150,7 @@ steps_fine : (past : List World) (w : World) (orders : List Order) → IsFine pa
 steps_fine past w [] f = subst (λ (p : List World). IsFine p w) (sym (append-nil past)) f
 steps_fine past w (o ∷ orders) f =
     subst (λ (p : List World). IsFine p (fold step (step w o) orders)) (append_assoc past (phases_at w o) (phases_from (step w o) orders))
-        (steps_fine (past ++ phases_at w o) (step w o) orders (step_fine past w o f))
+    (steps_fine (past ++ phases_at w o) (step w o) orders (step_fine past w o f))
 
 first_fine : IsFine [] first_world
 first_fine = record {

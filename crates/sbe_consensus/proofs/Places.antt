@@ -57,12 +57,12 @@ strict_within rules tail bytes long =
     (unless (tail_there tail (8 + rules_size rules) bytes) (bad (length bytes) causes.Short)) (unless (u16_at 6 bytes == 0) (bad 6 causes.Value)) (rules_fault rules 8 bytes) (tail_fault tail (8 + rules_size rules) bytes)
     (omega arith) (omega arith)
     (λ e.
-      let whole : 8 + rules_size rules ≤ length bytes = leb-true (8 + rules_size rules) (length bytes) e in (
-        when (length bytes) (tail_there tail (8 + rules_size rules) bytes) (bad (length bytes) causes.Short) (λ e. omega arith),
-        when (length bytes) (u16_at 6 bytes == 0) (bad 6 causes.Value) (λ e. omega (arith, long)),
-        rules_within (length bytes) rules 8 bytes whole,
-        tail_within tail (8 + rules_size rules) bytes whole,
-      ))
+    let whole : 8 + rules_size rules ≤ length bytes = leb-true (8 + rules_size rules) (length bytes) e in (
+      when (length bytes) (tail_there tail (8 + rules_size rules) bytes) (bad (length bytes) causes.Short) (λ e. omega arith),
+      when (length bytes) (u16_at 6 bytes == 0) (bad 6 causes.Value) (λ e. omega (arith, long)),
+      rules_within (length bytes) rules 8 bytes whole,
+      tail_within tail (8 + rules_size rules) bytes whole,
+    ))
 
 template_within : (o : Option Template) (bytes : List ℕ) → 8 ≤ length bytes → Within (length bytes) (template_fault o bytes)
 template_within None bytes long = omega (arith, long)

@@ -9,7 +9,7 @@ ghost use Rattle.sbe_consensus.specs.Laws.{Sound};
 ghost use Rattle.sbe_consensus.specs.declared.packet.Packet.{Packet};
 ghost use Rattle.sbe_consensus.specs.declared.template.Template.TheVariants as templates;
 
-use crate::batch::{batch_fault, batch_at};
+use crate::batch::{batch_at, batch_fault};
 use crate::packet::Packet;
 use crate::template::Template;
 use cl_base::NoMemory;
