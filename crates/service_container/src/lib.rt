@@ -5,6 +5,8 @@
 mod container;
 mod gate;
 mod outbox;
+#[cfg(test)]
+mod tests;
 
 pub use container::{Container, ServeEnd, Served};
 pub use gate::{Gate, NoGate};
