@@ -40,7 +40,7 @@ stream_of k [] = []
 stream_of k (r ∷ records) = record { stream = pos k; records = r ∷ records } ∷ []
 
 -- the streams of n clients from number k on
-abbrev pub streams_from : ℕ → ℕ → List Sent → List StreamLines
+unfoldable pub streams_from : ℕ → ℕ → List Sent → List StreamLines
 streams_from zero k sent = []
 streams_from (suc n) k sent = stream_of k (records_on k sent) ++ streams_from n (suc k) sent
 
@@ -84,5 +84,5 @@ order_line o = codes "order " ++ decimal o.line ++ codes " " ++ outcome_text o.o
 abbrev pub text_of : World → List ℕ
 text_of w = flat_map order_line w.told ++ report_text (report_of w)
 
-abbrev pub run_text : List Order → List ℕ
+unfoldable pub run_text : List Order → List ℕ
 run_text orders = text_of (world_after orders)

@@ -1,5 +1,5 @@
 // The report of a run, and all that it writes.
-ghost use Rattle.std.specs.Prelude.{◌≡◌, ◌++◌, ◌<◌, ◌≤◌, ◌+◌, ◌^◌, OnOk, IfOk, length, string_bytes};
+ghost use Rattle.std.specs.Prelude.{◌≡◌, ◌++◌, ◌∷◌, [], ◌<◌, ◌≤◌, ◌+◌, ◌^◌, OnOk, IfOk, length, string_bytes};
 ghost use Rattle.std.specs.List.{flat_map};
 ghost use Rattle.sbe_client.specs.Spelling.{egress_spelling_of};
 ghost use Rattle.cluster_run.specs.Reported.{numbered, record_of, records_on, stream_of, streams_from, leader_text, outcome_text, order_line};
@@ -104,6 +104,7 @@ pub(crate) fn numbered(
     entries: &[Event],
 ) -> Result<List<EntryLine>, NoMemory>
     requires { first + length entries.now < 2 ^ 64 }
+    ensures { IfOk result (λ lines. lines ≡ numbered first entries.now) }
 {
     let mut lines = List::new(alloc);
     for (i, entry) in entries.iter().enumerate() {
@@ -129,34 +130,64 @@ fn spelled(alloc: Global, egress: &Egress) -> Result<Bytes, NoMemory>
     encode_egress(alloc, egress)
 }
 
+/// A record, where it is on the stream.
+fn put_record(
+    alloc: Global,
+    stream: u64,
+    s: &Sent,
+    records: &mut List<RecordLine>,
+) -> Result<(), NoMemory>
+    requires { stream < 64 }
+    ensures { OnOk result (records.new ≡ records.old ++ records_on stream (s.now ∷ [])) }
+{
+    if s.stream as i64 != stream as i64 {
+        return Ok(());
+    }
+    let bytes = spelled(alloc, &s.egress)?;
+    records.push(RecordLine {
+        origin: s.origin,
+        bytes,
+    })
+}
+
 /// The records of one stream.
 fn records_on(alloc: Global, stream: u64, sent: &[Sent]) -> Result<List<RecordLine>, NoMemory>
     requires { stream < 64 }
+    ensures { IfOk result (λ records. records ≡ records_on stream sent.now) }
 {
     let mut records = List::new(alloc);
     for s in sent {
-        if s.stream as i64 == stream as i64 {
-            let bytes = spelled(alloc, &s.egress)?;
-            records.push(RecordLine {
-                origin: s.origin,
-                bytes,
-            })?;
-        }
+        put_record(alloc, stream, s, &mut records)?;
     }
     Ok(records)
 }
 
+/// The lines of a stream, where it has a record.
+fn put_stream(
+    stream: u64,
+    records: List<RecordLine>,
+    streams: &mut List<StreamLines>,
+) -> Result<(), NoMemory>
+    requires { stream < 64 }
+    ensures { OnOk result (streams.new ≡ streams.old ++ stream_of stream records) }
+{
+    if records.is_empty() {
+        return Ok(());
+    }
+    streams.push(StreamLines {
+        stream: stream as i32,
+        records,
+    })
+}
+
 /// The streams of the clients that have a record.
-pub(crate) fn streams(alloc: Global, sent: &[Sent]) -> Result<List<StreamLines>, NoMemory> {
+pub(crate) fn streams(alloc: Global, sent: &[Sent]) -> Result<List<StreamLines>, NoMemory>
+    ensures { IfOk result (λ streams. streams ≡ streams_from 64 0 sent.now) }
+{
     let mut streams = List::new(alloc);
     for k in 0..64u64 {
         let records = records_on(alloc, k, sent)?;
-        if !records.is_empty() {
-            streams.push(StreamLines {
-                stream: k as i32,
-                records,
-            })?;
-        }
+        put_stream(k, records, &mut streams)?;
     }
     Ok(streams)
 }
@@ -187,7 +218,9 @@ fn put_order(page: &mut String, order: &OrderLine) -> Result<(), NoMemory>
 }
 
 /// What became of the orders that were answered.
-pub(crate) fn put_orders(page: &mut String, orders: &[OrderLine]) -> Result<(), NoMemory> {
+pub(crate) fn put_orders(page: &mut String, orders: &[OrderLine]) -> Result<(), NoMemory>
+    ensures { OnOk result (string_bytes page.new ≡ string_bytes page.old ++ flat_map order_line orders.now) }
+{
     for order in orders {
         put_order(page, order)?;
     }
