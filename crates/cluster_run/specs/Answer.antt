@@ -4,6 +4,7 @@ use Rattle.scenario.specs.declared.fault.Reading.{Reading}
 use Rattle.scenario.specs.declared.fault.Refusal.{Refusal}
 use Rattle.scenario.specs.Orders.{reading_of}
 use Rattle.cluster_run.specs.Form.{refusal_of}
+use Rattle.cluster_run.specs.Reported.{run_text}
 use Rattle.cluster_run.specs.Status.{status_text}
 use Rattle.cluster_run.specs.declared.status.Status.{Status}
 use Rattle.cluster_run.specs.declared.status.Status.TheVariants as status
@@ -26,3 +27,4 @@ IsRefused _ = ⊥
 pub record IsAnswerTo (bytes : List ℕ) (a : Answer) : Type 0 where
   pub status : a.status ≡ status_of bytes
   pub line : IsRefused a.status → a.text ≡ status_text a.status
+  pub written : a.status ≡ status.Done → a.text ≡ run_text (reading_of bytes).orders

@@ -50,6 +50,7 @@ fn learns(known: Known, egress: &Egress) -> Known
 /// What a client knows by the records that were sent to it.
 pub(crate) fn known_by(client: u64, sent: &[Sent]) -> Known
     requires { client < 64 }
+    ensures { result ≡ known_by client sent.now }
 {
     let mut known = Known {
         term: -1,

@@ -16,7 +16,6 @@ mod run;
 mod sections;
 mod sent;
 mod sessions;
-mod spelled;
 mod status;
 mod stream;
 #[cfg(test)]

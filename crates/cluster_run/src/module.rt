@@ -1,6 +1,5 @@
 // What the log means to the module.
 use crate::sessions::{session_among, without};
-use cl_base::limits::NUMBER_LIMIT;
 use cl_base::{List, NoMemory};
 use sbe_events::Event;
 use std::alloc::Global;
@@ -42,23 +41,28 @@ impl Module {
         }
     }
 
-    fn open(&mut self, session: Session) -> Result<(), NoMemory> {
-        if self.next_id >= NUMBER_LIMIT as i64 {
-            return Err(NoMemory);
-        }
+    fn open(&mut self, session: Session) -> Result<(), NoMemory>
+        requires { self.old.next_id <ℤ pos (2 ^ 62) }
+        ensures { OnOk result (self.new ≡ opened self.old session) }
+    {
         self.sessions.push(session)?;
         self.next_id += 1;
         Ok(())
     }
 
-    fn close(&mut self, alloc: Global, id: i64) -> Result<(), NoMemory> {
+    fn close(&mut self, alloc: Global, id: i64) -> Result<(), NoMemory>
+        ensures { OnOk result (self.new ≡ closed self.old id) }
+    {
         let sessions = without(alloc, self.sessions.as_slice(), id)?;
         self.sessions = sessions;
         Ok(())
     }
 
-    /// Goes on by one event.
-    pub fn apply(&mut self, alloc: Global, event: &Event) -> Result<(), NoMemory> {
+    /// Goes on by one event. A session's number is below 2^62.
+    pub fn apply(&mut self, alloc: Global, event: &Event) -> Result<(), NoMemory>
+        requires numbered { self.old.next_id <ℤ pos (2 ^ 62) }
+        ensures module { OnOk result (self.new ≡ module_after self.old event.now) }
+    {
         match event {
             Event::Term { leader, .. } => {
                 self.leader = *leader;
@@ -80,7 +84,9 @@ impl Module {
     }
 
     /// The session of this number, where it is open.
-    pub fn session(&self, id: i64) -> Option<Session> {
+    pub fn session(&self, id: i64) -> Option<Session>
+        ensures { result ≡ session_of self.now id }
+    {
         session_among(self.sessions.as_slice(), id)
     }
 }

@@ -8,22 +8,21 @@ use cl_base::{Bytes, NoMemory};
 use sbe_events::Event;
 use scenario::Order;
 
-/// The most bytes of a log. What would go beyond finds no memory.
-const MOST: u64 = 1 << 48;
-
 impl Run {
-    ghost use Rattle.std.specs.Prelude.{◌≡◌, ◌++◌, ◌∷◌, [], OnOk, IfOk, ◌≤◌, ◌<◌, ◌^◌, length, fold};
-    ghost use Rattle.cluster_run.specs.Driver.{IsSafe};
-    ghost use Rattle.cluster_run.specs.World.{with_member, taken, admitted, connect_outcome, message_outcome, connects_to, sends, step};
+    ghost use Rattle.std.specs.Prelude.{◌≡◌, ◌++◌, ◌∷◌, [], OnOk, IfOk, IsTrue, ◌≤◌, ◌<◌, ◌+◌, ◌*◌, ◌^◌, length, fold, All};
+    ghost use Rattle.sbe_events.specs.Spelling.{IsClient, HasSpelling};
+    ghost use Rattle.cluster_run.specs.Form.{rounds_in};
+    ghost use Rattle.cluster_run.specs.Driver.{IsKept, IsNamed, rounds_of, member_in, world_of};
+    ghost use Rattle.cluster_run.specs.World.{is_ready, with_member, taken, admitted, connect_outcome, message_outcome, connects_to, sends, step};
 
     /// Row P19: an entry is appended where there is room.
     fn offer(&mut self, event: Event) -> Result<Outcome, NoMemory>
-        requires kept { IsSafe self.old }
-        ensures kept { OnOk result (IsSafe self.new) }
+        requires kept { IsKept self.old }
+        requires spelled { HasSpelling event }
+        ensures kept { OnOk result (IsKept self.new) }
+        ensures outcome { IfOk result (λ o. o ≡ admitted (member_in self.old) event) }
+        ensures world { IfOk result (λ o. world_of self.new ≡ with_member (world_of self.old) (taken (member_in self.old) event o)) }
     {
-        if self.name.place > MOST {
-            return Err(NoMemory);
-        }
         let end = end_behind(self.name.place, &event)?;
         let waiting = end.saturating_sub(self.commit_place);
         if waiting > WINDOW_LIMIT {
@@ -39,8 +38,11 @@ impl Run {
 
     /// What becomes of a connect.
     fn offer_connect(&mut self, event: Event) -> Result<Outcome, NoMemory>
-        requires kept { IsSafe self.old }
-        ensures kept { OnOk result (IsSafe self.new) }
+        requires kept { IsKept self.old }
+        requires spelled { IsTrue (is_ready self.old.election.state) → HasSpelling event }
+        ensures kept { OnOk result (IsKept self.new) }
+        ensures outcome { IfOk result (λ o. o ≡ connect_outcome (member_in self.old) event) }
+        ensures world { IfOk result (λ o. world_of self.new ≡ with_member (world_of self.old) (taken (member_in self.old) event o)) }
     {
         if !is_ready(self.election.state) {
             return Ok(Outcome::NotLeader {
@@ -61,8 +63,11 @@ impl Run {
         bytes: u64,
         event: Event,
     ) -> Result<Outcome, NoMemory>
-        requires kept { IsSafe self.old }
-        ensures kept { OnOk result (IsSafe self.new) }
+        requires kept { IsKept self.old }
+        requires spelled { IsTrue (is_ready self.old.election.state) → IsClient session → bytes ≤ 16384 → HasSpelling event }
+        ensures kept { OnOk result (IsKept self.new) }
+        ensures outcome { IfOk result (λ o. o ≡ message_outcome (member_in self.old) term session bytes event) }
+        ensures world { IfOk result (λ o. world_of self.new ≡ with_member (world_of self.old) (taken (member_in self.old) event o)) }
     {
         if !is_ready(self.election.state) {
             return Ok(Outcome::NotLeader {
@@ -82,14 +87,14 @@ impl Run {
     }
 
     fn connect(&mut self, line: u64, client: u64) -> Result<(), NoMemory>
-        requires kept { IsSafe self.old }
+        requires kept { IsKept self.old }
         requires client { client < 64 }
-        ensures kept { OnOk result (IsSafe self.new) }
+        requires moment { self.old.clock ≤ 2 ^ 48 }
+        requires count { length self.old.told < 2 ^ 32 }
+        ensures kept { OnOk result (IsKept self.new) }
+        ensures world { OnOk result (world_of self.new ≡ connects_to line client (world_of self.old)) }
     {
         let before = self.connects[client as usize];
-        if before >= MOST || self.clock > MOST {
-            return Err(NoMemory);
-        }
         let corr = before as i64 + 1;
         let event = Event::Opened {
             term: self.election.term,
@@ -107,13 +112,12 @@ impl Run {
     }
 
     fn send(&mut self, line: u64, client: u64, text: &Bytes) -> Result<(), NoMemory>
-        requires kept { IsSafe self.old }
+        requires kept { IsKept self.old }
         requires client { client < 64 }
-        ensures kept { OnOk result (IsSafe self.new) }
+        requires moment { self.old.clock ≤ 2 ^ 48 }
+        ensures kept { OnOk result (IsKept self.new) }
+        ensures world { OnOk result (world_of self.new ≡ sends line client text.now (world_of self.old)) }
     {
-        if self.clock > MOST {
-            return Err(NoMemory);
-        }
         let known = known_by(client, self.sent.as_slice());
         let event = Event::Message {
             term: self.election.term,
@@ -127,38 +131,34 @@ impl Run {
 
     /// One order. Those that aren't run change nothing.
     fn step(&mut self, order: &Order) -> Result<(), NoMemory>
-        requires kept { IsSafe self.old }
-        ensures kept { OnOk result (IsSafe self.new) }
+        requires kept { IsKept self.old }
+        requires named { IsNamed order.now }
+        requires moment { self.old.clock + 10 * rounds_in order.now ≤ 2 ^ 48 }
+        requires count { length self.old.told < 2 ^ 32 }
+        ensures kept { OnOk result (IsKept self.new) }
+        ensures world { OnOk result (world_of self.new ≡ step (world_of self.old) order.now) }
     {
         match order {
             Order::Rounds { rounds, .. } => self.rounds(*rounds),
-            Order::Connect { line, client, .. } => {
-                if *client < 64 {
-                    self.connect(*line, *client)
-                } else {
-                    Err(NoMemory)
-                }
-            }
+            Order::Connect { line, client, .. } => self.connect(*line, *client),
             Order::Send {
                 line,
                 client,
                 text,
                 ..
-            } => {
-                if *client < 64 {
-                    self.send(*line, *client, text)
-                } else {
-                    Err(NoMemory)
-                }
-            }
+            } => self.send(*line, *client, text),
             _ => Ok(()),
         }
     }
 
     /// Orders, one after the other.
     pub(crate) fn steps(&mut self, orders: &[Order]) -> Result<(), NoMemory>
-        requires kept { IsSafe self.old }
-        ensures kept { OnOk result (IsSafe self.new) }
+        requires kept { IsKept self.old }
+        requires named { All IsNamed orders.now }
+        requires moment { self.old.clock + 10 * rounds_of orders.now ≤ 2 ^ 48 }
+        requires count { length self.old.told + length orders.now < 2 ^ 32 }
+        ensures kept { OnOk result (IsKept self.new) }
+        ensures world { OnOk result (world_of self.new ≡ fold step (world_of self.old) orders.now) }
     {
         'each: for order in orders {
             self.step(order)?;

@@ -1,10 +1,10 @@
 // What entries owe to clients is put behind what was sent.
-ghost use Rattle.std.specs.Prelude.{◌≡◌, ◌++◌, ◌∷◌, [], ◌+◌, ◌<◌, ◌^◌, OnOk, IfOk, fold, length};
+ghost use Rattle.std.specs.Prelude.{◌≡◌, ◌++◌, ◌∷◌, [], ◌+◌, ◌<◌, ◌^◌, pos, ◌+ℤ◌, ◌<ℤ◌, ◌≤ℤ◌, OnOk, IfOk, All, fold, length};
+ghost use Rattle.sbe_events.specs.Spelling.{HasSpelling};
 ghost use Rattle.cluster_run.specs.Module.{term_of, stamp_of, module_after};
 ghost use Rattle.cluster_run.specs.World.{is_ready, leads_in, sent_at, sent_from};
 ghost use Rattle.cluster_run.specs.Owed.{new_leader_to, closed_to, owed_by_module, given_to, owed_outputs, owed_by_echo, owed};
 
-use crate::spelled::is_spelled;
 use crate::{Module, Origin, Sent, Session};
 use cl_base::limits::PAYLOAD_LIMIT;
 use cl_base::{Bytes, List, NoMemory};
@@ -20,7 +20,9 @@ fn put_new_leader(
     term: i64,
     leader: i32,
     sent: &mut List<Sent>,
-) -> Result<(), NoMemory> {
+) -> Result<(), NoMemory>
+    ensures { OnOk result (sent.new ≡ sent.old ++ new_leader_to entry 0 term leader sessions.now) }
+{
     for (i, s) in sessions.iter().enumerate() {
         let number = i as u64;
         sent.push(Sent {
@@ -41,7 +43,9 @@ fn put_session(
     entry: u64,
     egress: Egress,
     sent: &mut List<Sent>,
-) -> Result<(), NoMemory> {
+) -> Result<(), NoMemory>
+    ensures { OnOk result (sent.new ≡ sent.old ++ record { stream = stream; origin = Origin.Module entry 0; egress = egress } ∷ []) }
+{
     sent.push(Sent {
         stream,
         origin: Origin::Module { entry, number: 0 },
@@ -55,7 +59,9 @@ fn put_closed(
     term: i64,
     leader: i32,
     sent: &mut List<Sent>,
-) -> Result<(), NoMemory> {
+) -> Result<(), NoMemory>
+    ensures { OnOk result (sent.new ≡ sent.old ++ closed_to entry term leader found) }
+{
     match found {
         Some(s) => put_session(
             s.stream,
@@ -79,7 +85,9 @@ fn put_module_owed(
     entry: u64,
     event: &Event,
     sent: &mut List<Sent>,
-) -> Result<(), NoMemory> {
+) -> Result<(), NoMemory>
+    ensures { OnOk result (sent.new ≡ sent.old ++ owed_by_module module.now entry event.now) }
+{
     match event {
         Event::Term { term, leader, .. } => {
             put_new_leader(module.sessions.as_slice(), entry, *term, *leader, sent)
@@ -118,7 +126,10 @@ fn put_given(
     session: i64,
     payload: &Bytes,
     sent: &mut List<Sent>,
-) -> Result<u64, NoMemory> {
+) -> Result<u64, NoMemory>
+    ensures sent { OnOk result (sent.new ≡ sent.old ++ given_to origin term stamp session payload.now found) }
+    ensures count { IfOk result (λ n. n ≡ length (given_to origin term stamp session payload.now found)) }
+{
     match found {
         Some(s) => {
             if payload.len() > PAYLOAD_LIMIT {
@@ -156,7 +167,9 @@ fn put_outputs(
     service: u8,
     outputs: &[Output],
     sent: &mut List<Sent>,
-) -> Result<(), NoMemory> {
+) -> Result<(), NoMemory>
+    ensures { OnOk result (sent.new ≡ sent.old ++ owed_outputs module.now head.entry service head.term head.stamp 0 outputs.now) }
+{
     let mut number = 0;
     for output in outputs {
         if let Output::Egress { session, payload } = output {
@@ -199,7 +212,12 @@ pub(crate) fn take_entry(
     entry: u64,
     event: &Event,
     sent: &mut List<Sent>,
-) -> Result<(), NoMemory> {
+) -> Result<(), NoMemory>
+    requires spelled { HasSpelling event.now }
+    requires numbered { module.old.next_id <ℤ pos (2 ^ 62) }
+    ensures module { OnOk result (module.new ≡ module_after module.old event.now) }
+    ensures sent { OnOk result (sent.new ≡ sent.old ++ sent_at election.now module.old entry event.now) }
+{
     let head = head_of(entry, event);
     let leads = leads_in(election, head.term);
     if leads {
@@ -207,9 +225,7 @@ pub(crate) fn take_entry(
     }
     module.apply(alloc, event)?;
     let mut outputs = List::new(alloc);
-    if is_spelled(event) {
-        echo.apply(entry, event, &mut outputs)?;
-    }
+    echo.apply(entry, event, &mut outputs)?;
     if leads {
         put_outputs(module, head, 0, outputs.as_slice(), sent)?;
     }
@@ -238,7 +254,11 @@ pub(crate) fn take_entries(
     entries: &[Event],
     sent: &mut List<Sent>,
 ) -> Result<(), NoMemory>
-    requires { first + length entries.now < 2 ^ 64 }
+    requires count { first + length entries.now < 2 ^ 64 }
+    requires spelled { All HasSpelling entries.now }
+    requires numbered { module.old.next_id +ℤ pos (length entries.now) ≤ℤ pos (2 ^ 62) }
+    ensures module { OnOk result (module.new ≡ fold module_after module.old entries.now) }
+    ensures sent { OnOk result (sent.new ≡ sent.old ++ sent_from election.now module.old first entries.now) }
 {
     for (i, event) in entries.iter().enumerate() {
         take_entry(alloc, election, echo, module, first + i as u64, event, sent)?;

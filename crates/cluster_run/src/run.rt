@@ -10,9 +10,6 @@ use sbe_events::Event;
 use service_api::{Echo, Service};
 use std::alloc::Global;
 
-/// The most bytes of a log, and the most milliseconds. What would go beyond finds no memory.
-const MOST: u64 = 1 << 48;
-
 /// One member and its clients while orders are run.
 #[derive(Drop)]
 pub struct Run {
@@ -41,14 +38,18 @@ pub struct Run {
 }
 
 impl Run {
-    ghost use Rattle.std.specs.Prelude.{◌≡◌, ◌++◌, ◌∷◌, [], OnOk, IfOk, ◌≤◌, ◌^◌};
-    ghost use Rattle.cluster_run.specs.Driver.{IsSafe};
+    ghost use Rattle.std.specs.Prelude.{◌≡◌, ◌++◌, ◌∷◌, [], OnOk, IfOk, ◌≤◌, ◌+◌, ◌*◌, ◌^◌};
+    ghost use Rattle.election.specs.declared.member.State.TheVariants.{LeaderInit, LeaderReady};
+    ghost use Rattle.sbe_events.specs.Spelling.{HasSpelling};
+    ghost use Rattle.cluster_run.specs.Driver.{IsKept, member_in, world_of};
     ghost use Rattle.cluster_run.specs.Module.{place_of};
-    ghost use Rattle.cluster_run.specs.World.{first_world, with_member, committed_world, turn, phase, round, rounds};
-    ghost use Rattle.cluster_run.specs.LeaderRows.{appends, begins_reign, leads};
+    ghost use Rattle.cluster_run.specs.World.{first_world, with_member, turn, phase, round, rounds};
+    ghost use Rattle.cluster_run.specs.LeaderRows.{appends};
 
+    /// A member on a formatted disk, before any order.
     pub(crate) fn new(alloc: Global) -> Result<Run, NoMemory>
-        ensures kept { IfOk result IsSafe }
+        ensures kept { IfOk result IsKept }
+        ensures world { IfOk result (λ r. world_of r ≡ first_world) }
     {
         let echo = Echo::start(alloc)?;
         Ok(Run {
@@ -72,8 +73,12 @@ impl Run {
 
     /// Row P19: an entry that ends here is appended.
     pub(crate) fn append(&mut self, event: Event, end: u64) -> Result<(), NoMemory>
-        requires kept { IsSafe self.old }
-        ensures kept { OnOk result (IsSafe self.new) }
+        requires kept { IsKept self.old }
+        requires spelled { HasSpelling event }
+        requires end { end ≡ place_of (self.old.log ++ event ∷ []) }
+        requires room { end ≤ 16777216 }
+        ensures kept { OnOk result (IsKept self.new) }
+        ensures world { OnOk result (world_of self.new ≡ with_member (world_of self.old) (appends (member_in self.old) event)) }
     {
         self.tentative.apply(self.alloc, &event)?;
         self.name = LogName {
@@ -85,13 +90,12 @@ impl Run {
 
     /// Row P10.
     fn begin_reign(&mut self) -> Result<(), NoMemory>
-        requires kept { IsSafe self.old }
+        requires kept { IsKept self.old }
         requires moment { self.old.clock ≤ 2 ^ 48 }
-        ensures kept { OnOk result (IsSafe self.new) }
+        requires state { self.old.election.state ≡ LeaderInit }
+        ensures kept { OnOk result (IsKept self.new) }
+        ensures world { OnOk result (world_of self.new ≡ turn (world_of self.old)) }
     {
-        if self.name.place > MOST {
-            return Err(NoMemory);
-        }
         let place = self.name.place as i64;
         let event = Event::Term {
             term: self.election.term,
@@ -115,9 +119,11 @@ impl Run {
 
     /// Row P15: with no others each entry of its log is committed once its own new term event is in it.
     fn lead(&mut self)
-        requires kept { IsSafe self.old }
+        requires kept { IsKept self.old }
         requires moment { self.old.clock ≤ 2 ^ 48 }
-        ensures kept { IsSafe self.new }
+        requires state { self.old.election.state ≡ LeaderReady }
+        ensures kept { IsKept self.new }
+        ensures world { world_of self.new ≡ turn (world_of self.old) }
     {
         if self.election.next <= self.clock {
             self.election.next = self.clock + STATUS_INTERVAL_MS;
@@ -130,9 +136,10 @@ impl Run {
 
     /// The one row of its state.
     fn turn(&mut self) -> Result<(), NoMemory>
-        requires kept { IsSafe self.old }
+        requires kept { IsKept self.old }
         requires moment { self.old.clock ≤ 2 ^ 48 }
-        ensures kept { OnOk result (IsSafe self.new) }
+        ensures kept { OnOk result (IsKept self.new) }
+        ensures world { OnOk result (world_of self.new ≡ turn (world_of self.old)) }
     {
         match self.election.state {
             State::LeaderInit => self.begin_reign(),
@@ -150,8 +157,9 @@ impl Run {
 
     /// The service takes what is committed, and what that owes is sent.
     fn phase(&mut self) -> Result<(), NoMemory>
-        requires kept { IsSafe self.old }
-        ensures kept { OnOk result (IsSafe self.new) }
+        requires kept { IsKept self.old }
+        ensures kept { OnOk result (IsKept self.new) }
+        ensures world { OnOk result (world_of self.new ≡ phase (world_of self.old)) }
     {
         let (from, to) = (self.consumed, self.commit);
         take_entries(
@@ -169,20 +177,22 @@ impl Run {
 
     /// 10 ms pass, the member has its turn, and then its phase.
     fn round(&mut self) -> Result<(), NoMemory>
-        requires kept { IsSafe self.old }
-        ensures kept { OnOk result (IsSafe self.new) }
+        requires kept { IsKept self.old }
+        requires moment { self.old.clock + 10 ≤ 2 ^ 48 }
+        ensures kept { OnOk result (IsKept self.new) }
+        ensures world { OnOk result (world_of self.new ≡ round (world_of self.old)) }
     {
-        if self.clock > MOST - ROUND_MS {
-            return Err(NoMemory);
-        }
         self.clock += ROUND_MS;
         self.turn()?;
         self.phase()
     }
 
+    /// So many rounds.
     pub(crate) fn rounds(&mut self, count: u64) -> Result<(), NoMemory>
-        requires kept { IsSafe self.old }
-        ensures kept { OnOk result (IsSafe self.new) }
+        requires kept { IsKept self.old }
+        requires moment { self.old.clock + 10 * count ≤ 2 ^ 48 }
+        ensures kept { OnOk result (IsKept self.new) }
+        ensures world { OnOk result (world_of self.new ≡ rounds count (world_of self.old)) }
     {
         'each: for _ in 0..count {
             self.round()?;

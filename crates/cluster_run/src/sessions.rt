@@ -7,7 +7,9 @@ use cl_base::{List, NoMemory};
 use std::alloc::Global;
 
 /// The first session of this number.
-pub(crate) fn session_among(sessions: &[Session], id: i64) -> Option<Session> {
+pub(crate) fn session_among(sessions: &[Session], id: i64) -> Option<Session>
+    ensures { result ≡ find (is_session id) sessions.now }
+{
     sessions.iter().find(|s| s.id == id).copied()
 }
 
@@ -16,7 +18,9 @@ pub(crate) fn without(
     alloc: Global,
     sessions: &[Session],
     id: i64,
-) -> Result<List<Session>, NoMemory> {
+) -> Result<List<Session>, NoMemory>
+    ensures { IfOk result (λ kept. kept ≡ others_than id sessions.now) }
+{
     let mut kept = List::new(alloc);
     for s in sessions {
         if s.id != id {

@@ -7,12 +7,14 @@ use scenario::Order;
 use std::alloc::Global;
 
 impl Run {
-    ghost use Rattle.std.specs.Prelude.{◌≡◌, IfOk};
-    ghost use Rattle.cluster_run.specs.Driver.{IsSafe};
+    ghost use Rattle.std.specs.Prelude.{◌≡◌, IfOk, None};
+    ghost use Rattle.cluster_run.specs.Driver.{IsKept, world_of};
     ghost use Rattle.cluster_run.specs.Reported.{member_of, report_of, text_of, run_text};
+    ghost use Rattle.cluster_run.specs.Form.{unbuilt};
 
     fn member(&self) -> Result<MemberEnd, NoMemory>
-        requires { IsSafe self.now }
+        requires { IsKept self.now }
+        ensures { IfOk result (λ m. m ≡ member_of (world_of self.now)) }
     {
         let own = numbered(
             self.alloc,
@@ -34,7 +36,8 @@ impl Run {
 
     /// The report of the run so far.
     fn report(&self) -> Result<Report, NoMemory>
-        requires { IsSafe self.now }
+        requires { IsKept self.now }
+        ensures { IfOk result (λ r. r ≡ report_of (world_of self.now)) }
     {
         let log = numbered(self.alloc, 0, &self.log.as_slice()[..self.commit as usize])?;
         let inputs = numbered(
@@ -62,7 +65,8 @@ impl Run {
 
     /// A line for each order that was answered, and the report.
     fn text(&self) -> Result<Bytes, NoMemory>
-        requires { IsSafe self.now }
+        requires { IsKept self.now }
+        ensures { IfOk result (λ t. t ≡ text_of (world_of self.now)) }
     {
         let mut page = String::new(self.alloc);
         put_orders(&mut page, self.told.as_slice())?;
@@ -71,7 +75,10 @@ impl Run {
     }
 
     /// What a run of these orders writes.
-    pub(crate) fn written(alloc: Global, orders: &[Order]) -> Result<Bytes, NoMemory> {
+    pub(crate) fn written(alloc: Global, orders: &[Order]) -> Result<Bytes, NoMemory>
+        requires { unbuilt orders.now ≡ None }
+        ensures { IfOk result (λ text. text ≡ run_text orders.now) }
+    {
         let mut run = Run::new(alloc)?;
         run.steps(orders)?;
         run.text()
