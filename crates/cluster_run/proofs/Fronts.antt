@@ -101,10 +101,10 @@ duty_grows FollowerLogReplication m now within = still m within (duty FollowerLo
 duty_grows FollowerReady m now within = still m within (duty FollowerReady m.election (name_of m.log) now).election
 duty_grows Closed m now within = still m within (duty Closed m.election (name_of m.log) now).election
 
-longer_same : (xs : List Event) → longer xs xs ≡ xs
+pub longer_same : (xs : List Event) → longer xs xs ≡ xs
 longer_same xs = elim (nat_lt (length xs) (length xs)) as (λ b. (if b then xs else xs) ≡ xs) [ true ↦ refl | false ↦ refl ]
 
-longer_front : (log : List Event) (m n : ℕ) → m ≤ n → n ≤ length log → longer (take m log) (take n log) ≡ take n log
+pub longer_front : (log : List Event) (m n : ℕ) → m ≤ n → n ≤ length log → longer (take m log) (take n log) ≡ take n log
 longer_front log m n order within = ⊎_elim
     (λ less.
     let a : length (take m log) ≡ m = length-take-le m log (omega arith) in

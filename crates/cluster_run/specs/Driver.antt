@@ -29,18 +29,18 @@ world_of r = record {
 }
 
 -- the term in which a member stands or leads is a number that an event may have
-abbrev pub IsTermed : State → Election → Type 0
-IsTermed CandidateBallot m = IsNumber m.candidate
-IsTermed LeaderInit m = IsNumber m.term
-IsTermed LeaderReady m = IsNumber m.term
-IsTermed s m = ⊤
+abbrev pub IsTermed : State → ℤ → ℤ → Type 0
+IsTermed CandidateBallot candidate term = IsNumber candidate
+IsTermed LeaderInit candidate term = IsNumber term
+IsTermed LeaderReady candidate term = IsNumber term
+IsTermed s candidate term = ⊤
 
 -- the one member of its cluster, with terms in their ranges
 pub record IsAlone (m : Election) : Type 0 where
   pub id : m.id ≡ 0
   pub members : m.members ≡ 1
   pub candidate : negsuc 0 ≤ℤ m.candidate
-  pub term : IsTermed m.state m
+  pub term : IsTermed m.state m.candidate m.term
 
 -- what a run keeps beside its world's values: the log's name, where its commit ends, and the module before and after
 pub record IsKept (r : Run) : Type 0 where

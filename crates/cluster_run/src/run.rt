@@ -1,4 +1,7 @@
 // One member with the echo service, over a log in memory.
+ghost use Rattle.std.specs.Prelude.{◌≡◌, ◌≤◌, ◌+◌, ◌^◌, nat_le, if◌then◌else◌};
+ghost use Rattle.cluster_run.specs.Module.{term_of};
+
 use crate::owing::take_entries;
 use crate::places::{end_behind, term_of};
 use crate::{Module, OrderLine, Sent};
@@ -37,6 +40,26 @@ pub struct Run {
     pub(crate) connects: [u64; 64],
 }
 
+/// The name of a log whose last event is this one, which ends here.
+fn name_behind(event: &Event, end: u64) -> LogName
+    ensures { result ≡ record { term = term_of event.now; place = end } }
+{
+    let term = term_of(event);
+    LogName { term, place: end }
+}
+
+/// When a leader speaks next that was to speak at `next`, in ms.
+fn next_word(next: u64, now: u64) -> u64
+    requires { now ≤ 2 ^ 48 }
+    ensures { result ≡ (if nat_le next now then now + 100 else next) }
+{
+    if next <= now {
+        now + STATUS_INTERVAL_MS
+    } else {
+        next
+    }
+}
+
 impl Run {
     ghost use Rattle.std.specs.Prelude.{◌≡◌, ◌++◌, ◌∷◌, [], OnOk, IfOk, ◌≤◌, ◌+◌, ◌*◌, ◌^◌};
     ghost use Rattle.election.specs.declared.member.State.TheVariants.{LeaderInit, LeaderReady};
@@ -44,7 +67,7 @@ impl Run {
     ghost use Rattle.cluster_run.specs.Driver.{IsKept, member_in, world_of};
     ghost use Rattle.cluster_run.specs.Module.{place_of};
     ghost use Rattle.cluster_run.specs.World.{first_world, with_member, turn, phase, round, rounds};
-    ghost use Rattle.cluster_run.specs.LeaderRows.{appends};
+    ghost use Rattle.cluster_run.specs.LeaderRows.{new_term, appends};
 
     /// A member on a formatted disk, before any order.
     pub(crate) fn new(alloc: Global) -> Result<Run, NoMemory>
@@ -81,11 +104,24 @@ impl Run {
         ensures world { OnOk result (world_of self.new ≡ with_member (world_of self.old) (appends (member_in self.old) event)) }
     {
         self.tentative.apply(self.alloc, &event)?;
-        self.name = LogName {
-            term: term_of(&event),
-            place: end,
-        };
+        self.name = name_behind(&event, end);
         self.log.push(event)
+    }
+
+    /// The new term event of the term that the member is to lead.
+    fn new_term(&self) -> Event
+        requires kept { IsKept self.now }
+        requires moment { self.now.clock ≤ 2 ^ 48 }
+        ensures { result ≡ new_term (member_in self.now) self.now.clock }
+    {
+        let place = self.name.place as i64;
+        Event::Term {
+            term: self.election.term,
+            position: place,
+            stamp: self.clock as i64,
+            base: place,
+            leader: self.election.id as i32,
+        }
     }
 
     /// Row P10.
@@ -96,14 +132,7 @@ impl Run {
         ensures kept { OnOk result (IsKept self.new) }
         ensures world { OnOk result (world_of self.new ≡ turn (world_of self.old)) }
     {
-        let place = self.name.place as i64;
-        let event = Event::Term {
-            term: self.election.term,
-            position: place,
-            stamp: self.clock as i64,
-            base: place,
-            leader: self.election.id as i32,
-        };
+        let event = self.new_term();
         let end = end_behind(self.name.place, &event)?;
         if end > LOG_LIMIT {
             self.election.enter_canvass(self.clock);
@@ -125,9 +154,7 @@ impl Run {
         ensures kept { IsKept self.new }
         ensures world { world_of self.new ≡ turn (world_of self.old) }
     {
-        if self.election.next <= self.clock {
-            self.election.next = self.clock + STATUS_INTERVAL_MS;
-        }
+        self.election.next = next_word(self.election.next, self.clock);
         if self.own_end <= self.name.place {
             self.commit = self.log.len() as u64;
             self.commit_place = self.name.place;
@@ -194,7 +221,7 @@ impl Run {
         ensures kept { OnOk result (IsKept self.new) }
         ensures world { OnOk result (world_of self.new ≡ rounds count (world_of self.old)) }
     {
-        'each: for _ in 0..count {
+        'each: for done in 0..count {
             self.round()?;
         }
         Ok(())

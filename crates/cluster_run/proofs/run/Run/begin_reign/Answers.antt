@@ -1,0 +1,33 @@
+use Rattle.std.proofs.Common.{◌≡◌, ◌+◌, ◌≤◌, ◌<◌, ◌++◌, ◌∷◌, [], sym, ◌∙◌, ap, subst, arith, ℕ}
+use Rattle.sbe_events.specs.Spelling.{HasSpelling}
+use Rattle.cluster_run.specs.Driver.{IsAlone, world_of}
+use Rattle.cluster_run.proofs.Driving.{kept_elected, canvass_alone, no_room, reigns, kept_reigning, new_term_spelled, ends_behind}
+use Rattle.cluster_run.proofs.run.Run.begin_reign.Goals as goal
+
+pub returns-then-end-gt-LOG_LIMIT-clause-kept : goal.returns-then-end-gt-LOG_LIMIT-clause-kept
+returns-then-end-gt-LOG_LIMIT-clause-kept c =
+    let r = c.args.self.now in
+    kept_elected r c.enter_canvass.new.self c.requires.kept (subst IsAlone (sym c.enter_canvass.ensures) (canvass_alone r.election r.clock c.requires.kept.election))
+
+pub returns-then-end-gt-LOG_LIMIT-clause-world : goal.returns-then-end-gt-LOG_LIMIT-clause-world
+returns-then-end-gt-LOG_LIMIT-clause-world c =
+    let r = c.args.self.now in
+    no_room r c.new_term-event.result c.in_ok-end.end c.enter_canvass.new.self c.requires.kept c.requires.state c.if-end-gt-LOG_LIMIT.true c.new_term-event.ensures
+    (ends_behind r c.new_term-event.result c.in_ok-end.end c.requires.kept c.in_ok-end.ensures.0) c.enter_canvass.ensures
+
+pub append-requires-clause-spelled : goal.append-requires-clause-spelled
+append-requires-clause-spelled c = subst HasSpelling (sym c.new_term-event.ensures) (new_term_spelled c.args.self.now c.requires.kept c.requires.state c.requires.moment)
+
+pub append-requires-clause-end : goal.append-requires-clause-end
+append-requires-clause-end c = ends_behind c.args.self.now c.new_term-event.result c.in_ok-end.end c.requires.kept c.in_ok-end.ensures.0
+
+pub returns-clause-kept : goal.returns-clause-kept
+returns-clause-kept c =
+    let r = c.args.self.now in
+    kept_reigning r c.append.new.self c.new_term-event.result (r.clock + 100) c.in_ok-end.end c.requires.kept c.in_ok-append.ensures.kept c.requires.state c.in_ok-append.ensures.world
+
+pub returns-clause-world : goal.returns-clause-world
+returns-clause-world c =
+    let r = c.args.self.now in
+    reigns r (world_of c.append.new.self) c.new_term-event.result c.in_ok-end.end c.requires.kept c.requires.state c.if-end-gt-LOG_LIMIT.false c.new_term-event.ensures
+    (ends_behind r c.new_term-event.result c.in_ok-end.end c.requires.kept c.in_ok-end.ensures.0) c.in_ok-append.ensures.world
