@@ -61,7 +61,7 @@ impl Module {
     /// Goes on by one event. A session's number is below 2^62.
     pub fn apply(&mut self, alloc: Global, event: &Event) -> Result<(), NoMemory>
         requires numbered { self.old.next_id <ℤ pos (2 ^ 62) }
-        ensures module { OnOk result (self.new ≡ module_after self.old event.now) }
+        ensures tables { OnOk result (self.new ≡ module_after self.old event.now) }
     {
         match event {
             Event::Term { leader, .. } => {

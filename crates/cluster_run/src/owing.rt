@@ -81,16 +81,16 @@ fn put_closed(
 
 /// What the module owes at an entry, before which it is this.
 fn put_module_owed(
-    module: &Module,
+    tables: &Module,
     entry: u64,
     event: &Event,
     sent: &mut List<Sent>,
 ) -> Result<(), NoMemory>
-    ensures { OnOk result (sent.new ≡ sent.old ++ owed_by_module module.now entry event.now) }
+    ensures { OnOk result (sent.new ≡ sent.old ++ owed_by_module tables.now entry event.now) }
 {
     match event {
         Event::Term { term, leader, .. } => {
-            put_new_leader(module.sessions.as_slice(), entry, *term, *leader, sent)
+            put_new_leader(tables.sessions.as_slice(), entry, *term, *leader, sent)
         }
         Event::Opened {
             term,
@@ -105,13 +105,13 @@ fn put_module_owed(
                 session: *session,
                 corr: *corr,
                 term: *term,
-                leader: module.leader,
+                leader: tables.leader,
                 code: 0,
             },
             sent,
         ),
         Event::Closed { term, session, .. } => {
-            put_closed(module.session(*session), entry, *term, module.leader, sent)
+            put_closed(tables.session(*session), entry, *term, tables.leader, sent)
         }
         _ => Ok(()),
     }
@@ -162,13 +162,13 @@ pub(crate) struct Head {
 
 /// What a service owes by its outputs at an entry, after which the module is this.
 fn put_outputs(
-    module: &Module,
+    tables: &Module,
     head: Head,
     service: u8,
     outputs: &[Output],
     sent: &mut List<Sent>,
 ) -> Result<(), NoMemory>
-    ensures { OnOk result (sent.new ≡ sent.old ++ owed_outputs module.now head.entry service head.term head.stamp 0 outputs.now) }
+    ensures { OnOk result (sent.new ≡ sent.old ++ owed_outputs tables.now head.entry service head.term head.stamp 0 outputs.now) }
 {
     let mut number = 0;
     for output in outputs {
@@ -178,11 +178,11 @@ fn put_outputs(
                 service,
                 number,
             };
-            let found = module.session(*session);
+            let found = tables.session(*session);
             let owed = put_given(
                 found, origin, head.term, head.stamp, *session, payload, sent,
             )?;
-            number = number.saturating_add(owed);
+            number += owed;
         }
     }
     Ok(())
@@ -208,26 +208,26 @@ pub(crate) fn take_entry(
     alloc: Global,
     election: &Election,
     echo: &mut Echo,
-    module: &mut Module,
+    tables: &mut Module,
     entry: u64,
     event: &Event,
     sent: &mut List<Sent>,
 ) -> Result<(), NoMemory>
     requires spelled { HasSpelling event.now }
-    requires numbered { module.old.next_id <ℤ pos (2 ^ 62) }
-    ensures module { OnOk result (module.new ≡ module_after module.old event.now) }
-    ensures sent { OnOk result (sent.new ≡ sent.old ++ sent_at election.now module.old entry event.now) }
+    requires numbered { tables.old.next_id <ℤ pos (2 ^ 62) }
+    ensures tables { OnOk result (tables.new ≡ module_after tables.old event.now) }
+    ensures sent { OnOk result (sent.new ≡ sent.old ++ sent_at election.now tables.old entry event.now) }
 {
     let head = head_of(entry, event);
     let leads = leads_in(election, head.term);
     if leads {
-        put_module_owed(module, entry, event, sent)?;
+        put_module_owed(tables, entry, event, sent)?;
     }
-    module.apply(alloc, event)?;
+    tables.apply(alloc, event)?;
     let mut outputs = List::new(alloc);
     echo.apply(entry, event, &mut outputs)?;
     if leads {
-        put_outputs(module, head, 0, outputs.as_slice(), sent)?;
+        put_outputs(tables, head, 0, outputs.as_slice(), sent)?;
     }
     Ok(())
 }
@@ -249,19 +249,19 @@ pub(crate) fn take_entries(
     alloc: Global,
     election: &Election,
     echo: &mut Echo,
-    module: &mut Module,
+    tables: &mut Module,
     first: u64,
     entries: &[Event],
     sent: &mut List<Sent>,
 ) -> Result<(), NoMemory>
     requires count { first + length entries.now < 2 ^ 64 }
     requires spelled { All HasSpelling entries.now }
-    requires numbered { module.old.next_id +ℤ pos (length entries.now) ≤ℤ pos (2 ^ 62) }
-    ensures module { OnOk result (module.new ≡ fold module_after module.old entries.now) }
-    ensures sent { OnOk result (sent.new ≡ sent.old ++ sent_from election.now module.old first entries.now) }
+    requires numbered { (tables.old.next_id +ℤ pos (length entries.now)) ≤ℤ pos (2 ^ 62) }
+    ensures tables { OnOk result (tables.new ≡ fold module_after tables.old entries.now) }
+    ensures sent { OnOk result (sent.new ≡ sent.old ++ sent_from election.now tables.old first entries.now) }
 {
     for (i, event) in entries.iter().enumerate() {
-        take_entry(alloc, election, echo, module, first + i as u64, event, sent)?;
+        take_entry(alloc, election, echo, tables, first + i as u64, event, sent)?;
     }
     Ok(())
 }
