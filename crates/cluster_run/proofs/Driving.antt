@@ -3,8 +3,8 @@ use Rattle.std.proofs.Common.{◌≡◌, ◌≢◌, ℕ, zero, suc, ◌+◌, ◌
 use Rattle.std.specs.Prelude.{All, ◌≤ℤ◌, ◌<ℤ◌, negsuc, ◌^◌, ◌&&◌, not, set, replicate, int_le, count_by}
 use Rattle.std.specs.Int.{int_max}
 use Rattle.std.specs.List.{list_any}
-use Rattle.std.proofs.lemmas.List.{take-append-le, take-take}
-use Rattle.std.proofs.lemmas.List.Elements.{All-push}
+use Rattle.std.proofs.lemmas.List.{take-append-le, take-take, length-replicate}
+use Rattle.std.proofs.lemmas.List.Elements.{All-push, All-nil, All-replicate}
 use Rattle.std.proofs.lemmas.Bool.{le-leb, lt-leb}
 use Rattle.std.proofs.lemmas.Int.{ints, fold-int_max_bounds}
 use Rattle.entry_log.specs.Log.{end_after}
@@ -15,7 +15,7 @@ use Rattle.election.specs.declared.member.State.{State}
 use Rattle.election.specs.declared.member.State.TheVariants.{Init, Canvass, Nominate, CandidateBallot, FollowerBallot, LeaderInit, LeaderReady, FollowerLogReplication, FollowerReady, Closed}
 use Rattle.election.specs.declared.member.Heard.{Heard}
 use Rattle.election.specs.declared.member.Election.{Election}
-use Rattle.election.specs.Rows.{Turn, stays, later, heard_count, heard_better, vote_count, enter_canvass, returns_to_canvass, duty, canvass_ends, in_canvass, in_follower_ballot, in_candidate_ballot, nominates}
+use Rattle.election.specs.Rows.{Turn, begins, stays, later, heard_count, heard_better, vote_count, enter_canvass, returns_to_canvass, duty, canvass_ends, in_canvass, in_follower_ballot, in_candidate_ballot, nominates}
 use Rattle.election.specs.declared.event.Decision.TheVariants as D
 use Rattle.sbe_events.specs.declared.event.Event.{Event}
 use Rattle.sbe_events.specs.Spelling.{HasSpelling, IsNumber}
@@ -138,8 +138,16 @@ kept_reigning r a e next end k l state is =
     let term : IsNumber a.election.term = subst (λ (s : State). IsTermed s a.election.candidate a.election.term) there l.election.term in
     record {
       election = record { id = l.election.id; members = l.election.members; candidate = l.election.candidate; term = term };
-      commit = l.commit; consumed = l.consumed; spelled = l.spelled; name = l.name; room = l.room;
-      commit_place = l.commit_place; committed = l.committed; tentative = l.tentative; clients = l.clients; connects = l.connects;
+      commit = l.commit;
+      consumed = l.consumed;
+      spelled = l.spelled;
+      name = l.name;
+      room = l.room;
+      commit_place = l.commit_place;
+      committed = l.committed;
+      tentative = l.tentative;
+      clients = l.clients;
+      connects = l.connects;
     }
 
 -- the new term event of a member that is to lead
@@ -303,8 +311,17 @@ duty_alone Closed m own now state a = a
 
 pub kept_elected : (r : Run) (e : Election) → IsKept r → IsAlone e → IsKept (record r { election = e })
 kept_elected r e k a = record {
-  election = a; commit = k.commit; consumed = k.consumed; spelled = k.spelled; name = k.name; room = k.room;
-  commit_place = k.commit_place; committed = k.committed; tentative = k.tentative; clients = k.clients; connects = k.connects;
+  election = a;
+  commit = k.commit;
+  consumed = k.consumed;
+  spelled = k.spelled;
+  name = k.name;
+  room = k.room;
+  commit_place = k.commit_place;
+  committed = k.committed;
+  tentative = k.tentative;
+  clients = k.clients;
+  connects = k.connects;
 }
 
 pub dutied : (r : Run) (e : Election) → IsKept r → e ≡ (duty r.election.state r.election r.name r.clock).election → IsKept (record r { election = e })
@@ -338,8 +355,16 @@ ends_behind r e end k is = is ∙ ap (λ (n : LogName). end_after n.place (event
 pub kept_leading : (r : Run) (next c place : ℕ) → IsKept r → r.commit ≤ c → c ≤ length r.log → place ≡ place_of (take c r.log) → IsKept (record r { election = record r.election { next = next }; commit = c; commit_place = place })
 kept_leading r next c place k more within is = record {
   election = record { id = k.election.id; members = k.election.members; candidate = k.election.candidate; term = k.election.term };
-  commit = within; consumed = (let a = k.consumed in omega arith); spelled = k.spelled; name = k.name; room = k.room;
-  commit_place = is; committed = k.committed; tentative = k.tentative; clients = k.clients; connects = k.connects;
+  commit = within;
+  consumed = (let a = k.consumed in omega arith);
+  spelled = k.spelled;
+  name = k.name;
+  room = k.room;
+  commit_place = is;
+  committed = k.committed;
+  tentative = k.tentative;
+  clients = k.clients;
+  connects = k.connects;
 }
 
 -- ---- a phase
@@ -371,9 +396,17 @@ phased_now r sent echo m k is =
 
 kept_phased_now : (r : Run) (sent : List Sent) (echo : Echo) (m : Module) → IsKept r → m ≡ fold module_after r.committed (due_in r) → IsKept (record r { consumed = r.commit; sent = sent; echo = echo; committed = m })
 kept_phased_now r sent echo m k is = record {
-  election = k.election; commit = k.commit; consumed = omega arith; spelled = k.spelled; name = k.name; room = k.room; commit_place = k.commit_place;
+  election = k.election;
+  commit = k.commit;
+  consumed = omega arith;
+  spelled = k.spelled;
+  name = k.name;
+  room = k.room;
+  commit_place = k.commit_place;
   committed = is ∙ ap (λ (x : Module). fold module_after x (due_in r)) k.committed ∙ sym (fold-append module_after empty (take r.consumed r.log) (due_in r)) ∙ ap module_of (all_taken r k);
-  tentative = k.tentative; clients = k.clients; connects = k.connects;
+  tentative = k.tentative;
+  clients = k.clients;
+  connects = k.connects;
 }
 
 -- what the service takes, where the log was read as l
@@ -410,3 +443,21 @@ round_next w n k below = ap (λ j. rounds j w) (let more : n - k ≡ suc (n - (k
 
 pub rounds_none : (w : World) (n k : ℕ) → n ≤ k → rounds (n - k) w ≡ w
 rounds_none w n k past = ap (λ j. rounds j w) (let none : n - k ≡ 0 = omega arith in none)
+
+-- ---- the beginning
+
+pub fresh_kept : (r : Run) → r.election ≡ begins 0 1 (negsuc 0) None → r.log ≡ [] → r.name ≡ record { term = negsuc 0; place = 0 } → r.commit ≡ 0 → r.commit_place ≡ 0 → r.consumed ≡ 0
+    → r.committed ≡ empty → r.tentative ≡ empty → r.connects ≡ replicate 64 0 → IsKept r
+fresh_kept r election log name commit place consumed committed tentative connects = record {
+  election = subst IsAlone (sym election) (record { id = refl; members = refl; candidate = omega (arith, ints); term = tt });
+  commit = omega arith;
+  consumed = omega arith;
+  spelled = subst (All HasSpelling) (sym log) (All-nil HasSpelling);
+  name = name ∙ ap name_of (sym log);
+  room = subst (λ (l : List Event). place_of l ≤ 16777216) (sym log) (omega arith);
+  commit_place = place ∙ sym (ap (λ n. place_of (take n r.log)) commit);
+  committed = committed ∙ sym (ap (λ n. module_of (take n r.log)) consumed);
+  tentative = tentative ∙ ap module_of (sym log);
+  clients = ap length connects ∙ length-replicate {A = ℕ} 64 0;
+  connects = subst (All (λ n. n ≤ length r.told)) (sym connects) (All-replicate (λ n. n ≤ length r.told) 64 0 (omega arith));
+}

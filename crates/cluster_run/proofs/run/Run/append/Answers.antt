@@ -15,7 +15,7 @@ returns-clause-kept c =
     (λ is. kept_with r c.args.event c.push.new.self c.name_behind-self.result c.apply.new.self c.requires.kept c.requires.spelled
     (subst (λ (n : ℕ). n ≤ 16777216) c.requires.end c.requires.room) is
     (c.name_behind-self.ensures ∙ ap (λ (p : ℕ). let n : LogName = record { term = term_of c.args.event; place = p } in n) c.requires.end)
-    c.in_ok-apply.ensures.«module»)
+    c.in_ok-apply.ensures.tables)
     c.push.ensures.ok
 
 pub returns-clause-world : goal.returns-clause-world
