@@ -30,6 +30,7 @@ pub use laws::{
     sends_what_is_owed,
 };
 pub use module::{Module, Session};
+pub use places::measures_spellings;
 pub use report::{
     EntryLine, Kept, MemberEnd, Origin, RecordLine, Report, ServiceRun, SnapshotLine, StreamLines,
 };

@@ -1,6 +1,8 @@
 // The length of an event, and the term of it.
 ghost use Rattle.std.specs.Prelude.{◌≡◌, ◌+◌, ◌<◌, ◌≤◌, ◌^◌, length, IfOk};
 ghost use Rattle.entry_log.specs.Log.{end_after};
+ghost use Rattle.sbe_events.specs.Spelling.{spelling_of};
+ghost use Rattle.sbe_events.specs.declared.event.Event.{Event};
 ghost use Rattle.cluster_run.specs.Module.{term_of, event_len};
 
 use cl_base::limits::CHANNEL_LIMIT;
@@ -58,3 +60,8 @@ pub(crate) fn end_behind(place: u64, event: &Event) -> Result<u64, NoMemory>
     let len = event_len(event)?;
     Ok(end_after(place, len))
 }
+
+/// An event is as long in the log as its spelling.
+pub fn measures_spellings()
+    ensures { (e : Event) → event_len e ≡ length (spelling_of e) }
+{}
