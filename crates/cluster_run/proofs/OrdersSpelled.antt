@@ -1,15 +1,14 @@
 -- The events that orders offer have a spelling.
-use Rattle.std.proofs.Common.{◌≡◌, ℕ, suc, ◌+◌, ◌*◌, ◌-◌, ◌^◌, ◌<◌, ◌≤◌, ℤ, pos, negsuc, ◌+ℤ◌, IsTrue, List, [], length, Option, Some, None, sym, ◌∙◌, ap, subst, arith, to_z, of_z}
+use Rattle.std.proofs.Common.{◌≡◌, ℕ, suc, ◌+◌, ◌^◌, ◌<◌, ◌≤◌, ℤ, pos, negsuc, ◌+ℤ◌, IsTrue, List, [], length, Option, Some, None, sym, ◌∙◌, ap, subst, arith, to_z, of_z}
 use Rattle.std.specs.Prelude.{FitsSigned, slice_index, is_some}
 use Rattle.std.specs.Int.{w32, w64}
 use Rattle.std.proofs.lemmas.Int.{ints, to_z-of_z, to_z_pos}
 use Rattle.election.specs.declared.member.State.{State}
-use Rattle.election.specs.declared.member.State.TheVariants.{Init, Canvass, Nominate, CandidateBallot, FollowerBallot, LeaderInit, LeaderReady, FollowerLogReplication, FollowerReady, Closed}
-use Rattle.election.specs.declared.member.Election.{Election}
+use Rattle.election.specs.declared.member.State.TheVariants.{LeaderReady}
 use Rattle.sbe_events.specs.Spelling.{IsNumber, IsClient, HasSpelling}
 use Rattle.sbe_events.specs.declared.event.Event.{Event}
 use Rattle.sbe_events.specs.declared.event.Event.TheVariants as event
-use Rattle.cluster_run.specs.Driver.{IsAlone, IsTermed, IsKept, world_of}
+use Rattle.cluster_run.specs.Driver.{IsTermed, IsKept, world_of}
 use Rattle.cluster_run.specs.Module.{module_of, session_of}
 use Rattle.cluster_run.specs.World.{is_ready}
 use Rattle.cluster_run.specs.declared.module.Module.{Module}

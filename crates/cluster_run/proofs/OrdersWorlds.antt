@@ -9,7 +9,7 @@ use Rattle.sbe_events.specs.declared.event.Event.TheVariants as event
 use Rattle.scenario.specs.declared.order.Order.{Order}
 use Rattle.scenario.specs.declared.order.Order.TheVariants as order
 use Rattle.cluster_run.specs.Form.{rounds_in}
-use Rattle.cluster_run.specs.Driver.{IsKept, IsNamed, rounds_of, member_in, world_of}
+use Rattle.cluster_run.specs.Driver.{IsKept, rounds_of, member_in, world_of}
 use Rattle.cluster_run.specs.LeaderRows.{Member}
 use Rattle.cluster_run.specs.Module.{module_of}
 use Rattle.cluster_run.specs.World.{World, with_member, taken, connect_outcome, message_outcome, answers, known_by, connects_to, sends, round, rounds, step}

@@ -1,4 +1,4 @@
-use Rattle.std.proofs.Common.{rules, ◌∙◌, w64}
+use Rattle.std.proofs.Common.{rules, w64}
 use Rattle.std.specs.Prelude.{FitsSigned}
 use Rattle.cluster_run.specs.Driver.{member_in, world_of}
 use Rattle.cluster_run.specs.World.{taken}

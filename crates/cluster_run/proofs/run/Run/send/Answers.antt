@@ -1,10 +1,10 @@
-use Rattle.std.proofs.Common.{rules, ◌≡◌, ◌≤◌, ℤ, pos, refl, ap, sym, ◌∙◌, arith, to_z, of_z, List, ℕ}
+use Rattle.std.proofs.Common.{rules, ◌≡◌, ◌≤◌, ℤ, pos, ap, sym, ◌∙◌, arith, to_z, of_z, List, ℕ}
 use Rattle.std.specs.Prelude.{FitsSigned}
 use Rattle.std.specs.Int.{w64}
 use Rattle.std.proofs.lemmas.Int.{to_z-of_z, to_z_pos}
 use Rattle.std.proofs.lemmas.Result.{on_ok_weaker}
-use Rattle.cluster_run.specs.Driver.{member_in, world_of}
-use Rattle.cluster_run.specs.World.{known_by, message_outcome}
+use Rattle.cluster_run.specs.Driver.{world_of}
+use Rattle.cluster_run.specs.World.{known_by}
 use Rattle.cluster_run.specs.declared.clients.Known.{Known}
 use Rattle.cluster_run.specs.declared.run.Run.{Run}
 use Rattle.sbe_events.specs.declared.event.Event.TheVariants as event
