@@ -5,8 +5,9 @@ use Rattle.cl_base.specs.declared.fault.Trouble.{Trouble}
 use Rattle.cl_base.specs.declared.fault.Trouble.TheVariants as trouble
 use Rattle.scenario.specs.declared.fault.Refusal.{Refusal}
 use Rattle.cluster_run.specs.Answer.{IsAnswerTo, IsRefused, status_from, status_of}
-use Rattle.scenario.specs.Orders.{reading_of}
+use Rattle.scenario.specs.Orders.{reading_of, orders_of}
 use Rattle.cluster_run.specs.Form.{refusal_of}
+use Rattle.cluster_run.specs.Reported.{run_text}
 use Rattle.cluster_run.specs.Status.{ended, IsOrGivesUp, status_text}
 use Rattle.cluster_run.specs.Top.{IsDecided, Unasked, Unread, Longer, Read, IsRefusal, refusal}
 use Rattle.cluster_run.specs.declared.status.Status.{Status}
@@ -198,6 +199,20 @@ module _ {T : Type 0} (run tells : Bool) (had left : List ℕ) (old new : ℕ) (
   wrote_line held text line wrote =
       let m : a.status ≡ ended a.status r = was_meant _ _ r refl (refusal_meant _ line) in
       was_written a.status r (refusal_meant _ line) wrote ∙ ap (λ (line : List ℕ). held ++ line) (line_text (subst IsRefusal (sym m) line) ∙ ap status_text m)
+
+  run_written : IsTrue tells → a.status ≡ status.Done → a.text ≡ run_text (orders_of had)
+  run_written t m = elim d [
+    | Unasked denied is ↦ let s : a.status ≡ status.Usage = ap (λ (b : Answer). b.status) is in absurd (cc)
+    | Unread wanted rose is ↦ let s : a.status ≡ status.ReadFault = ap (λ (b : Answer). b.status) is in absurd (cc)
+    | Longer wanted longer is ↦ let s : a.status ≡ status.TooLong = ap (λ (b : Answer). b.status) is in absurd (cc)
+    | Read wanted bytes short told is ↦ is.written m ∙ ap (λ (bs : List ℕ). run_text (orders_of bs)) (told t).0
+  ]
+
+  -- done: what the run of the orders writes is written
+  pub wrote_run : (held text : List ℕ) → IsTrue tells → ended a.status r ≡ status.Done → OnOk r (text ≡ held ++ a.text) → text ≡ held ++ run_text (orders_of had)
+  wrote_run held text t e wrote =
+      let m : a.status ≡ status.Done = was_meant _ _ r e tt in
+      was_written a.status r (subst IsMeant (sym e) tt) wrote ∙ ap (λ (bs : List ℕ). held ++ bs) (run_written t m)
 
   pub write_fault : {P : Type 0} → ended a.status r ≡ status.WriteFault → (IsErrOf r trouble.Failed → P) → P
   write_fault e cause = cause (was_failed a.status r decided_meant e)

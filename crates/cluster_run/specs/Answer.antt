@@ -2,17 +2,17 @@
 use Rattle.std.specs.Prelude.{◌≡◌, ℕ, List, [], Option, Some, None}
 use Rattle.scenario.specs.declared.fault.Reading.{Reading}
 use Rattle.scenario.specs.declared.fault.Refusal.{Refusal}
-use Rattle.scenario.specs.Orders.{reading_of}
+use Rattle.scenario.specs.Orders.{reading_of, orders_of}
 use Rattle.cluster_run.specs.Form.{refusal_of}
 use Rattle.cluster_run.specs.Reported.{run_text}
 use Rattle.cluster_run.specs.Status.{status_text}
 use Rattle.cluster_run.specs.declared.status.Status.{Status}
-use Rattle.cluster_run.specs.declared.status.Status.TheVariants as status
+use Rattle.cluster_run.specs.declared.status.Status.TheVariants.{Done, Refused}
 use Rattle.cluster_run.specs.declared.answer.Answer.{Answer}
 
 abbrev pub status_from : Option Refusal → Status
-status_from (Some r) = status.Refused r.line r.cause
-status_from None = status.Done
+status_from (Some r) = Refused r.line r.cause
+status_from None = Done
 
 -- Done for a scenario that is run, else the first line that is refused
 unfoldable pub status_of : List ℕ → Status
@@ -20,11 +20,11 @@ status_of bytes = status_from (refusal_of (reading_of bytes))
 
 -- a refusal of a line
 abbrev pub IsRefused : Status → Type 0
-IsRefused (status.Refused line cause) = Unit {0}
+IsRefused (Refused line cause) = Unit {0}
 IsRefused _ = ⊥
 
 -- an answer to a scenario's bytes
 pub record IsAnswerTo (bytes : List ℕ) (a : Answer) : Type 0 where
   pub status : a.status ≡ status_of bytes
   pub line : IsRefused a.status → a.text ≡ status_text a.status
-  pub written : a.status ≡ status.Done → a.text ≡ run_text (reading_of bytes).orders
+  pub written : a.status ≡ Done → a.text ≡ run_text (orders_of bytes)

@@ -1,10 +1,14 @@
 // The top call.
-ghost use Rattle.std.specs.Prelude.{◌≡◌, ◌⊎◌, ◌<◌, ◌≤◌, ◌++◌, IsTrue, true, false, length, map, string_bytes, IfOk, []};
+ghost use Rattle.std.specs.Prelude.{◌≡◌, ◌⊎◌, ◌<◌, ◌≤◌, ◌++◌, IsTrue, true, false, length, take, map, pos, string_bytes, All, AllPairs, IfOk, []};
 ghost use Rattle.cl_base.specs.Counts.{Rose};
+ghost use Rattle.scenario.specs.Orders.{orders_of};
 ghost use Rattle.cluster_run.specs.Answer.{status_of, IsRefused};
+ghost use Rattle.cluster_run.specs.Headline.{IsOwed, IsOther, IsSentByLeader, IsLedBy, no_reign, phases_of};
+ghost use Rattle.cluster_run.specs.Reported.{run_text};
 ghost use Rattle.cluster_run.specs.Status.{IsOrGivesUp, status_text};
 ghost use Rattle.cluster_run.specs.Streams.{IsPart};
 ghost use Rattle.cluster_run.specs.Top.{is_run, IsDecided, IsRefusal};
+ghost use Rattle.cluster_run.specs.World.{world_after};
 ghost use Rattle.cluster_run.specs.declared.answer.Answer.{Answer};
 
 use crate::stream::{Unread, give, take_all};
@@ -68,6 +72,20 @@ pub fn cluster_main<I: Source, O: Sink>(
     // What a sink that tells then holds.
     ensures refusal { IsTrue (O.tells sink.old) → IsRefusal result → O.held sink.new ≡ O.held sink.old ++ status_text result }
     ensures part { IsTrue (O.tells sink.old) → (result ≡ Status.WriteFault) ⊎ (result ≡ Status.NoMemory) → (O.held sink.new ≡ O.held sink.old) ⊎ ((a : Answer) × IsDecided (is_run (map string_bytes words.now)) (I.tells source.old) (I.left source.old) (I.left source.new) (I.fault_count source.old) (I.fault_count source.new) a × IsPart (O.held sink.old) a.text (O.held sink.new)) }
+
+    // Done: the text is that of the world that the scenario's orders reach.
+    ensures written { IsTrue (I.tells source.old) → IsTrue (O.tells sink.old) → result ≡ Status.Done → O.held sink.new ≡ O.held sink.old ++ run_text (orders_of (I.left source.old)) }
+
+    // In that world the service has consumed a front of the printed log.
+    ensures inputs { IsTrue (I.tells source.old) → result ≡ Status.Done → (world_after (orders_of (I.left source.old))).inputs ≡ take (length (world_after (orders_of (I.left source.old))).inputs) (world_after (orders_of (I.left source.old))).printed }
+    // Each record that was sent for an entry is owed by that entry of the printed log: the same egress on the same stream.
+    ensures owed { IsTrue (I.tells source.old) → result ≡ Status.Done → All (IsOwed (world_after (orders_of (I.left source.old))).printed) (world_after (orders_of (I.left source.old))).sent }
+    // No two of them have the same entry, service (or the module) and number.
+    ensures once { IsTrue (I.tells source.old) → result ≡ Status.Done → AllPairs IsOther (world_after (orders_of (I.left source.old))).sent }
+    // Each was sent in a phase that began with the member LEADER_READY in the entry's term.
+    ensures led { IsTrue (I.tells source.old) → result ≡ Status.Done → All (IsSentByLeader (phases_of (orders_of (I.left source.old))) (world_after (orders_of (I.left source.old))).printed) (world_after (orders_of (I.left source.old))).sent }
+    // Each printed entry has the term of the last new term event up to it, and that event names the member.
+    ensures named { IsTrue (I.tells source.old) → result ≡ Status.Done → IsLedBy (pos 0) no_reign (world_after (orders_of (I.left source.old))).printed }
 
     // A scenario of the form is run, where the outside doesn't fail.
     ensures complete { IsTrue (I.tells source.old) → is_run (map string_bytes words.now) ≡ true → length (I.left source.old) ≤ SCENARIO_LIMIT → status_of (I.left source.old) ≡ Status.Done → (Rose (I.fault_count source.old) (I.fault_count source.new) → ⊥) → (Rose (O.fault_count sink.old) (O.fault_count sink.new) → ⊥) → (result ≡ Status.Done) ⊎ (result ≡ Status.NoMemory) }

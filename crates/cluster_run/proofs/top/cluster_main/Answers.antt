@@ -1,5 +1,7 @@
 use Rattle.std.proofs.Common.{inr}
+use Rattle.scenario.specs.Orders.{orders_of}
 use Rattle.cluster_run.proofs.Answering as answering
+use Rattle.cluster_run.proofs.HeadlineSteps.{headline_holds}
 use Rattle.cluster_run.proofs.top.cluster_main.Goals as goal
 
 pub returns-in-Ok-clause-usage : goal.returns-in-Ok-clause-usage
@@ -19,3 +21,21 @@ returns-in-Ok-clause-refusal g c = rw c.after.ensures (λ t line. answering.wrot
 
 pub returns-in-Ok-clause-part : goal.returns-in-Ok-clause-part
 returns-in-Ok-clause-part g c = rw c.after.ensures (λ t e. inr (c.in-Ok.answer, c.in-Ok.ensures.decided, answering.part _ _ _ _ _ _ _ c.in-Ok.ensures.decided c.give.result e (rw c.as_slice.ensures at (c.give.ensures.part t))))
+
+pub returns-in-Ok-clause-written : goal.returns-in-Ok-clause-written
+returns-in-Ok-clause-written g c = rw c.after.ensures (λ t u e. answering.wrote_run _ _ _ _ _ _ _ c.in-Ok.ensures.decided c.give.result _ _ t e (rw c.as_slice.ensures at (c.give.ensures.whole u)))
+
+pub returns-in-Ok-clause-inputs : goal.returns-in-Ok-clause-inputs
+returns-in-Ok-clause-inputs g c = λ t e. (headline_holds (orders_of (g.I.Source.left c.args.source.now))).inputs
+
+pub returns-in-Ok-clause-owed : goal.returns-in-Ok-clause-owed
+returns-in-Ok-clause-owed g c = λ t e. (headline_holds (orders_of (g.I.Source.left c.args.source.now))).owed
+
+pub returns-in-Ok-clause-once : goal.returns-in-Ok-clause-once
+returns-in-Ok-clause-once g c = λ t e. (headline_holds (orders_of (g.I.Source.left c.args.source.now))).once
+
+pub returns-in-Ok-clause-led : goal.returns-in-Ok-clause-led
+returns-in-Ok-clause-led g c = λ t e. (headline_holds (orders_of (g.I.Source.left c.args.source.now))).led
+
+pub returns-in-Ok-clause-named : goal.returns-in-Ok-clause-named
+returns-in-Ok-clause-named g c = λ t e. (headline_holds (orders_of (g.I.Source.left c.args.source.now))).named
