@@ -1,5 +1,5 @@
 -- What is put behind a list, piece by piece.
-use Rattle.std.proofs.Common.{◌≡◌, ℕ, suc, ◌+◌, ◌<◌, ◌≤◌, ℤ, List, [], ◌∷◌, ◌++◌, length, drop, fold, get_or, refl, sym, ◌∙◌, ap, arith, append_assoc, append-nil}
+use Rattle.std.proofs.Common.{◌≡◌, ℕ, suc, ◌+◌, ◌<◌, ◌≤◌, ℤ, true, false, nat_le, if◌then◌else◌, Option, Some, None, List, [], ◌∷◌, ◌++◌, length, drop, fold, get_or, refl, sym, ◌∙◌, ap, arith, append_assoc, append-nil}
 use Rattle.std.proofs.lemmas.List.{at_drop_more, drop_all}
 use Rattle.election.specs.declared.member.Election.{Election}
 use Rattle.sbe_client.specs.declared.egress.Egress.TheVariants as egress
@@ -11,6 +11,7 @@ use Rattle.cluster_run.specs.Owed.{new_leader_to, owed_outputs, given_to}
 use Rattle.cluster_run.specs.World.{sent_at, sent_from}
 use Rattle.cluster_run.specs.declared.module.Module.{Module}
 use Rattle.cluster_run.specs.declared.module.Session.{Session}
+use Rattle.cluster_run.specs.declared.report.Origin.{Origin}
 use Rattle.cluster_run.specs.declared.report.Origin.TheVariants as origin
 use Rattle.cluster_run.specs.declared.sent.Sent.{Sent}
 
@@ -49,6 +50,24 @@ outputs_more m i v term stamp j n outputs k o was now whole within is so_far cou
     next_piece whole was now (owed_outputs m i v term stamp j (o ∷ [])) _ (owed_outputs m i v term stamp (j + n) (drop (k + 1) outputs)) so_far
     (ap (owed_outputs m i v term stamp j) (next_item outputs k o within is) ∙ one_output m i v term stamp j o (drop (k + 1) outputs) ∙ ap (λ c. owed_outputs m i v term stamp j (o ∷ []) ++ owed_outputs m i v term stamp (j + c) (drop (k + 1) outputs)) (sym count))
     put
+
+-- a message of a service's is put where its session is open and it isn't too long
+pub outputs_given : (m : Module) (i v : ℕ) (term stamp : ℤ) (j n next : ℕ) (outputs : List Output) (k : ℕ) (o : Output) (session : ℤ) (payload : List ℕ) (found : Option Session) (was now whole : List Sent) → k < length outputs → o ≡ get_or outputs k o → o ≡ output.Egress session payload → found ≡ session_of m session → was ++ owed_outputs m i v term stamp j (drop k outputs) ≡ whole → n ≡ length (given_to (origin.Service i v j) term stamp session payload found) → next ≡ j + n → now ≡ was ++ given_to (origin.Service i v j) term stamp session payload found → now ++ owed_outputs m i v term stamp next (drop (k + 1) outputs) ≡ whole
+outputs_given m i v term stamp j n next outputs k o session payload found was now whole within is message its so_far count counted put =
+    let one : owed_outputs m i v term stamp j (o ∷ []) ≡ given_to (origin.Service i v j) term stamp session payload found = ap (λ x. owed_outputs m i v term stamp j (x ∷ [])) message ∙ append-nil (given_to (origin.Service i v j) term stamp session payload (session_of m session)) ∙ ap (given_to (origin.Service i v j) term stamp session payload) (sym its) in
+    ap (λ x. now ++ owed_outputs m i v term stamp x (drop (k + 1) outputs)) counted ∙ outputs_more m i v term stamp j n outputs k o was now whole within is so_far (count ∙ ap length (sym one)) (put ∙ ap (λ g. was ++ g) (sym one))
+
+-- an output that owes clients nothing is passed
+pub outputs_other : (m : Module) (i v : ℕ) (term stamp : ℤ) (j next : ℕ) (outputs : List Output) (k : ℕ) (o : Output) (was now whole : List Sent) → k < length outputs → o ≡ get_or outputs k o → owed_outputs m i v term stamp j (o ∷ []) ≡ [] → was ++ owed_outputs m i v term stamp j (drop k outputs) ≡ whole → next ≡ j → now ≡ was → now ++ owed_outputs m i v term stamp next (drop (k + 1) outputs) ≡ whole
+outputs_other m i v term stamp j next outputs k o was now whole within is one so_far counted same =
+    let none : next ≡ j + 0 = omega (arith, counted) in
+    ap (λ x. now ++ owed_outputs m i v term stamp x (drop (k + 1) outputs)) none ∙ outputs_more m i v term stamp j 0 outputs k o was now whole within is so_far (ap length (sym one)) (same ∙ sym (append-nil was) ∙ ap (λ g. was ++ g) (sym one))
+
+pub given_most : (o : Origin) (term stamp session : ℤ) (payload : List ℕ) (found : Option Session) → length (given_to o term stamp session payload found) ≤ 1
+given_most o term stamp session payload None = omega arith
+given_most o term stamp session payload (Some s) =
+    let sent : List Sent = record { stream = s.stream; origin = o; egress = egress.Message term session stamp payload } ∷ [] in
+    elim (nat_le (length payload) 16384) as (λ b. length (if b then sent else []) ≤ 1) [ true ↦ omega arith | false ↦ omega arith ]
 
 pub outputs_done : (m : Module) (i v : ℕ) (term stamp : ℤ) (j : ℕ) (outputs : List Output) (k : ℕ) (was whole : List Sent) → length outputs ≤ k → was ++ owed_outputs m i v term stamp j (drop k outputs) ≡ whole → was ≡ whole
 outputs_done m i v term stamp j outputs k was whole past so_far = last_piece whole was _ so_far (ap (owed_outputs m i v term stamp j) (drop_all k outputs past))
