@@ -9,7 +9,7 @@ use Rattle.scenario.specs.declared.fault.Refusal.{Refusal}
 use Rattle.scenario.specs.declared.order.Order.{Order}
 use Rattle.scenario.specs.declared.order.Order.TheVariants as order
 use Rattle.cluster_run.specs.Driver.{IsNamed, rounds_of}
-use Rattle.cluster_run.specs.Form.{fits, next_stage, rounds_in, line_of, unbuilt_from, or_else, are_rounds, is_one_member, is_echo_service, is_first_connect, is_message}
+use Rattle.cluster_run.specs.Form.{fits, next_stage, rounds_in, line_of, unbuilt_from, are_rounds, is_one_member, is_echo_service, is_first_connect, is_message}
 use Rattle.cluster_run.specs.declared.form.Stage.{Stage}
 use Rattle.cluster_run.specs.declared.form.Stage.TheVariants as stage
 
@@ -132,8 +132,3 @@ runnable_from at before (o ∷ orders) few none =
 
 pub runnable : (orders : List Order) → unbuilt_from stage.Members 0 orders ≡ None → IsRunnable 0 7 orders
 runnable orders none = runnable_from stage.Members 0 orders (omega arith) none
-
--- where nothing is refused, each order is run
-pub no_unbuilt : (first fault : Option Refusal) → or_else first fault ≡ None → first ≡ None
-no_unbuilt None fault e = refl
-no_unbuilt (Some r) fault e = absurd (cc)
