@@ -4,12 +4,12 @@ use Rattle.cl_base.specs.Counts.{Rose}
 use Rattle.cl_base.specs.declared.fault.Trouble.{Trouble}
 use Rattle.cl_base.specs.declared.fault.Trouble.TheVariants as trouble
 use Rattle.scenario.specs.declared.fault.Refusal.{Refusal}
-use Rattle.cluster_run.specs.Answer.{IsAnswerTo, IsRefused, status_from, status_of}
+use Rattle.cluster_run.specs.Answer.{IsRefused, status_from, status_of}
 use Rattle.scenario.specs.Orders.{reading_of, orders_of}
 use Rattle.cluster_run.specs.Form.{refusal_of}
 use Rattle.cluster_run.specs.Reported.{run_text}
 use Rattle.cluster_run.specs.Status.{ended, IsOrGivesUp, status_text}
-use Rattle.cluster_run.specs.Top.{IsDecided, Unasked, Unread, Longer, Read, IsRefusal, refusal}
+use Rattle.cluster_run.specs.Top.{IsDecided, Unasked, Unread, Longer, Read, IsRefusal}
 use Rattle.cluster_run.specs.declared.status.Status.{Status}
 use Rattle.cluster_run.specs.declared.status.Status.TheVariants as status
 use Rattle.cluster_run.specs.declared.answer.Answer.{Answer}

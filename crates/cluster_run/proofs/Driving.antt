@@ -1,15 +1,14 @@
 -- The driver's steps are those of its world.
-use Rattle.std.proofs.Common.{◌≡◌, ◌≢◌, ℕ, zero, suc, ◌+◌, ◌-◌, ◌*◌, ◌<◌, ◌≤◌, max, ℤ, pos, ◌+ℤ◌, Bool, true, false, if◌then◌else◌, nat_le, nat_lt, List, [], ◌∷◌, ◌++◌, map, length, take, drop, fold, Option, Some, None, refl, sym, ◌∙◌, ap, subst, arith, append-nil, length-take-le, length-append}
-use Rattle.std.specs.Prelude.{All, ◌≤ℤ◌, ◌<ℤ◌, negsuc, ◌^◌, ◌&&◌, not, set, replicate, int_le, count_by}
+use Rattle.std.proofs.Common.{◌≡◌, ℕ, suc, ◌+◌, ◌-◌, ◌*◌, ◌<◌, ◌≤◌, max, ℤ, pos, ◌+ℤ◌, Bool, true, false, if◌then◌else◌, nat_le, List, [], ◌∷◌, ◌++◌, map, length, take, drop, fold, Option, Some, None, refl, sym, ◌∙◌, ap, subst, arith, append-nil, length-take-le, length-append}
+use Rattle.std.specs.Prelude.{All, ◌≤ℤ◌, ◌<ℤ◌, negsuc, ◌^◌, ◌&&◌, not, set, replicate, int_le}
 use Rattle.std.specs.Int.{int_max}
 use Rattle.std.specs.List.{list_any}
-use Rattle.std.proofs.lemmas.List.{take-append-le, take-take, length-replicate}
+use Rattle.std.proofs.lemmas.List.{take-append-le, length-replicate}
 use Rattle.std.proofs.lemmas.List.Elements.{All-push, All-nil, All-replicate}
 use Rattle.std.proofs.lemmas.Bool.{le-leb, lt-leb}
 use Rattle.std.proofs.lemmas.Int.{ints, fold-int_max_bounds}
 use Rattle.entry_log.specs.Log.{end_after}
 use Rattle.entry_log.specs.Quorum.{is_quorum}
-use Rattle.entry_log.specs.TermLaws.{choice}
 use Rattle.entry_log.specs.declared.name.LogName.{LogName}
 use Rattle.election.specs.declared.member.State.{State}
 use Rattle.election.specs.declared.member.State.TheVariants.{Init, Canvass, Nominate, CandidateBallot, FollowerBallot, LeaderInit, LeaderReady, FollowerLogReplication, FollowerReady, Closed}
@@ -19,8 +18,8 @@ use Rattle.election.specs.Rows.{Turn, begins, stays, later, heard_count, heard_b
 use Rattle.election.specs.declared.event.Decision.TheVariants as D
 use Rattle.sbe_events.specs.declared.event.Event.{Event}
 use Rattle.sbe_events.specs.Spelling.{HasSpelling, IsNumber}
-use Rattle.cluster_run.specs.Module.{term_of, event_len, place_from, place_of, last_term, module_of, module_after, empty}
-use Rattle.cluster_run.specs.LeaderRows.{Member, name_of, new_term, appends, begins_reign, leads, commit_after, entries_from, entries_to, quorum_position, reports_of, heard_count as leader_heard, duty_in, duty_of}
+use Rattle.cluster_run.specs.Module.{term_of, event_len, place_from, place_of, module_of, module_after, empty}
+use Rattle.cluster_run.specs.LeaderRows.{Member, name_of, new_term, appends, begins_reign, commit_after, entries_from, entries_to, quorum_position, reports_of, heard_count as leader_heard, duty_in}
 use Rattle.cluster_run.specs.World.{World, with_member, committed_world, longer, turn, phase, round, rounds, sent_from}
 use Rattle.cluster_run.specs.Driver.{IsAlone, IsTermed, IsKept, member_in, world_of}
 use Rattle.cluster_run.specs.declared.module.Module.{Module}

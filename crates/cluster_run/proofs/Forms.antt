@@ -5,7 +5,6 @@ use Rattle.std.proofs.lemmas.Bool.Decides.{nat_tests}
 use Rattle.std.proofs.lemmas.List.{drop_all}
 use Rattle.std.proofs.lemmas.List.Elements.{All-nil, All-cons}
 use Rattle.scenario.specs.declared.fault.Cause.TheVariants.{NotBuilt}
-use Rattle.scenario.specs.declared.fault.Refusal.{Refusal}
 use Rattle.scenario.specs.declared.order.Order.{Order}
 use Rattle.scenario.specs.declared.order.Order.TheVariants as order
 use Rattle.cluster_run.specs.Driver.{IsNamed, rounds_of}

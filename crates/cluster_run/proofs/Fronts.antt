@@ -1,9 +1,8 @@
 -- In every world the service has consumed a front of the printed log, and that is what is committed.
-use Rattle.std.proofs.Common.{◌≡◌, ℕ, zero, suc, ◌+◌, ◌-◌, ◌%◌, ◌<◌, ◌≤◌, max, Bool, true, false, if◌then◌else◌, nat_le, nat_lt, List, [], ◌∷◌, ◌++◌, map, length, take, drop, fold, Option, Some, None, refl, sym, ◌∙◌, ap, subst, ⊎_elim, arith, append-nil, take-append-drop, length-take-le, length-append}
+use Rattle.std.proofs.Common.{◌≡◌, ℕ, zero, suc, ◌+◌, ◌-◌, ◌≤◌, max, Bool, true, false, if◌then◌else◌, nat_le, nat_lt, List, [], ◌∷◌, ◌++◌, map, length, take, drop, fold, None, refl, sym, ◌∙◌, ap, ⊎_elim, arith, append-nil, length-take-le, length-append}
 use Rattle.std.proofs.lemmas.List.{take-take, take-append-le}
 use Rattle.std.proofs.lemmas.Bool.{le-leb, cases_lt}
 use Rattle.cluster_run.proofs.Parts.{take-add}
-use Rattle.std.proofs.Math.Seq.{take-append-add}
 use Rattle.scenario.specs.declared.order.Order.{Order}
 use Rattle.scenario.specs.declared.order.Order.TheVariants as order
 use Rattle.election.specs.declared.member.State.{State}
@@ -17,7 +16,7 @@ use Rattle.cluster_run.specs.declared.sent.Outcome.{Outcome}
 use Rattle.cluster_run.specs.declared.sent.Outcome.TheVariants as outcome
 use Rattle.cluster_run.specs.Module.{event_len, place_of}
 use Rattle.cluster_run.specs.LeaderRows.{Member, begins_reign, leads, duty_in, duty_of, name_of, appends, commit_after, entries_from, entries_to, quorum_position, reports_of, heard_count, new_term}
-use Rattle.cluster_run.specs.World.{World, first_world, longer, committed_world, turn, phase, round, rounds, taken, connects_to, sends, step, world_after, is_ready, connect_outcome, message_outcome}
+use Rattle.cluster_run.specs.World.{World, first_world, longer, turn, phase, round, rounds, taken, connects_to, sends, step, world_after}
 
 -- a member's commit is within its log
 abbrev Within : Member → Type 0

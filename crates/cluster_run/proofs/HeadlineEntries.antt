@@ -1,7 +1,7 @@
 -- What entries owe stands apart, and is owed by its entry.
-use Rattle.std.proofs.Common.{◌≡◌, ℕ, zero, suc, ◌+◌, ◌<◌, ◌≤◌, ℤ, Bool, true, false, if◌then◌else◌, nat_le, List, [], ◌∷◌, ◌++◌, take, length, fold, get_or, Option, Some, None, refl, sym, ◌∙◌, ap, subst, arith, append_assoc, append-nil, length-append}
+use Rattle.std.proofs.Common.{◌≡◌, ℕ, zero, suc, ◌+◌, ◌<◌, ◌≤◌, ℤ, true, nat_le, List, [], ◌∷◌, ◌++◌, take, length, fold, get_or, Option, Some, None, refl, sym, ◌∙◌, ap, subst, arith, append_assoc, append-nil, length-append}
 use Rattle.std.proofs.lemmas.Bool.{false≢true}
-use Rattle.std.specs.Prelude.{slice_get, is_some, All, AllPairs, Contains, ⊤}
+use Rattle.std.specs.Prelude.{slice_get, is_some, All, Contains, ⊤}
 use Rattle.std.proofs.lemmas.List.{take-append-le}
 use Rattle.std.proofs.lemmas.Option.{slice_get_within}
 use Rattle.std.proofs.lemmas.List.Elements.{All-nil, All-cons, All-append, All-weaker, All-contains_itself, Contains-append_left}
@@ -10,9 +10,9 @@ use Rattle.election.specs.declared.member.Election.{Election}
 use Rattle.sbe_events.specs.declared.event.Event.{Event}
 use Rattle.sbe_events.specs.declared.event.Event.TheVariants as event
 use Rattle.sbe_client.specs.declared.egress.Egress.TheVariants as egress
-use Rattle.cluster_run.specs.Headline.{entry_of, IsOwed, IsOther, IsSentIn, IsSentByLeader}
-use Rattle.cluster_run.specs.Module.{term_of, stamp_of, empty, module_of, module_after, session_of}
-use Rattle.cluster_run.specs.Owed.{new_leader_to, closed_to, owed_by_module, given_to, owed_outputs, owed_by_echo, owed}
+use Rattle.cluster_run.specs.Headline.{entry_of, IsOwed, IsOther, IsSentByLeader}
+use Rattle.cluster_run.specs.Module.{term_of, empty, module_of, module_after, session_of}
+use Rattle.cluster_run.specs.Owed.{new_leader_to, closed_to, owed_by_module, given_to, owed_by_echo, owed}
 use Rattle.cluster_run.specs.World.{World, leads_in, sent_at, sent_from}
 use Rattle.cluster_run.specs.declared.report.Origin.{Origin}
 use Rattle.cluster_run.specs.declared.report.Origin.TheVariants as origin

@@ -1,5 +1,5 @@
 -- The headline is true after each list of orders.
-use Rattle.std.proofs.Common.{◌≡◌, ℕ, zero, suc, ◌+◌, ◌-◌, ◌<◌, ◌≤◌, ℤ, pos, Bool, true, false, ◌&&◌, List, [], ◌∷◌, ◌++◌, take, drop, length, fold, get_or, Option, Some, None, refl, sym, ◌∙◌, ap, subst, arith, append_assoc, append-nil, take-append-drop}
+use Rattle.std.proofs.Common.{◌≡◌, ℕ, zero, suc, ◌+◌, ◌-◌, ℤ, pos, Bool, true, false, ◌&&◌, List, [], ◌∷◌, ◌++◌, take, drop, length, fold, get_or, Some, None, refl, sym, ◌∙◌, ap, subst, arith, append_assoc, append-nil, take-append-drop}
 use Rattle.std.specs.Prelude.{All, Contains, slice_index, int_le, ◌≤ℤ◌}
 use Rattle.std.proofs.lemmas.Bool.{false≢true}
 use Rattle.std.proofs.lemmas.Int.{ints}
@@ -18,7 +18,7 @@ use Rattle.cluster_run.specs.declared.sent.Outcome.TheVariants as outcome
 use Rattle.cluster_run.specs.declared.sent.Sent.{Sent}
 use Rattle.cluster_run.specs.declared.clients.Known.{Known}
 use Rattle.cluster_run.specs.Module.{term_of, module_of}
-use Rattle.cluster_run.specs.Headline.{entry_of, IsOwed, IsOther, IsSentIn, IsSentByLeader, phase_sends, phases_in, phases_at, phases_from, phases_of, IsLedBy, no_reign, Headline}
+use Rattle.cluster_run.specs.Headline.{entry_of, IsOwed, IsSentByLeader, phase_sends, phases_in, phases_at, phases_from, phases_of, IsLedBy, no_reign, Headline}
 use Rattle.cluster_run.specs.World.{World, first_world, turn, phase, round, rounds, connects_to, sends, answers, direct, connect_outcome, message_outcome, known_by, step, world_after, is_ready}
 use Rattle.cluster_run.proofs.Fronts.{IsSound, turn_sound, phase_sound, step_sound, consumes_front}
 use Rattle.cluster_run.proofs.HeadlineEntries.{Apart, apart_pairs, apart_append, one_all, one_apart, BeforeEntry, FromEntry, before_from, sent_all, Paid, paid_from, owed_on, led_on, some_none}

@@ -1,12 +1,10 @@
 -- An event is as long as its spelling.
-use Rattle.std.proofs.Common.{◌≡◌, ℕ, ◌+◌, List, [], ◌++◌, length, sym, ◌∙◌, ap, arith, length-append}
+use Rattle.std.proofs.Common.{◌≡◌, ℕ, ◌+◌, List, [], ◌++◌, length, sym, arith, length-append}
 use Rattle.wire_prims.specs.Fields.{le32, length-le32}
 use Rattle.wire_prims.specs.Strict.{message, block_size, counted}
-use Rattle.wire_prims.specs.StrictLaws.{tail_spelling, length-message}
+use Rattle.wire_prims.specs.StrictLaws.{length-message}
 use Rattle.wire_prims.specs.declared.strict.Field.{Field}
-use Rattle.wire_prims.specs.declared.strict.Tail.{Tail}
-use Rattle.sbe_events.specs.Templates.{tail_of}
-use Rattle.sbe_events.specs.Spelling.{template_for, fields_of, content_of, spelling_of}
+use Rattle.sbe_events.specs.Spelling.{fields_of, spelling_of}
 use Rattle.sbe_events.specs.declared.event.Event.{Event}
 use Rattle.sbe_events.specs.declared.event.Event.TheVariants as event
 use Rattle.cluster_run.specs.Module.{event_len}

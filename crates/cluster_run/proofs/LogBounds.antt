@@ -1,14 +1,14 @@
 -- How long a log is that ends at a place, and what the module of a log keeps.
-use Rattle.std.proofs.Common.{◌≡◌, ℕ, zero, suc, ◌+◌, ◌*◌, ◌/◌, ◌%◌, ◌==◌, ◌^◌, ◌<◌, ◌≤◌, ℤ, pos, negsuc, ◌+ℤ◌, ◌≤ℤ◌, Bool, true, false, cond, not, if◌then◌else◌, nat_le, List, [], ◌∷◌, ◌++◌, length, fold, Option, Some, None, refl, sym, ◌∙◌, ap, subst, arith}
-use Rattle.std.specs.Prelude.{All, filter, find}
+use Rattle.std.proofs.Common.{◌≡◌, ℕ, ◌+◌, ◌*◌, ◌≤◌, ℤ, pos, ◌+ℤ◌, ◌≤ℤ◌, Bool, true, false, cond, not, if◌then◌else◌, nat_le, List, [], ◌∷◌, ◌++◌, length, fold, Option, Some, refl, arith}
+use Rattle.std.specs.Prelude.{All, find}
 use Rattle.std.proofs.lemmas.Int.{ints}
 use Rattle.std.proofs.lemmas.Bool.Decides.{nat_tests}
 use Rattle.std.proofs.lemmas.List.Elements.{All-nil, All-push, All-filter, All-head, All-tail}
-use Rattle.entry_log.specs.Log.{same_term, frames_len, end_after}
+use Rattle.entry_log.specs.Log.{frames_len, end_after}
 use Rattle.sbe_events.specs.Spelling.{IsClient, HasSpelling}
 use Rattle.sbe_events.specs.declared.event.Event.{Event}
 use Rattle.sbe_events.specs.declared.event.Event.TheVariants as event
-use Rattle.cluster_run.specs.Module.{event_len, place_from, place_of, empty, is_session, others_than, opened, closed, module_after, module_of, session_of}
+use Rattle.cluster_run.specs.Module.{event_len, place_from, empty, is_session, module_after, module_of, session_of}
 use Rattle.cluster_run.specs.declared.module.Session.{Session}
 use Rattle.cluster_run.specs.declared.module.Module.{Module}
 

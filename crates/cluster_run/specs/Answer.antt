@@ -1,6 +1,5 @@
 -- What the program answers to a scenario, and the text that goes with it.
-use Rattle.std.specs.Prelude.{◌≡◌, ℕ, List, [], Option, Some, None}
-use Rattle.scenario.specs.declared.fault.Reading.{Reading}
+use Rattle.std.specs.Prelude.{◌≡◌, ℕ, List, Option, Some, None}
 use Rattle.scenario.specs.declared.fault.Refusal.{Refusal}
 use Rattle.scenario.specs.Orders.{reading_of, orders_of}
 use Rattle.cluster_run.specs.Form.{refusal_of}

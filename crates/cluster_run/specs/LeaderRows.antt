@@ -1,16 +1,16 @@
 -- The rows of a leader, for any number of members: how a reign begins (P10), a leader's duty (P15) and an appended entry
 -- (P19). What they send to the others isn't told here.
-use Rattle.std.specs.Prelude.{ℕ, zero, suc, ◌+◌, ◌-◌, ℤ, pos, negsuc, Bool, ◌&&◌, not, nat_le, nat_lt, max, List, [], ◌∷◌, ◌++◌, map, fold, length, count_by, Option, Some, None, unwrap_or, if◌then◌else◌}
+use Rattle.std.specs.Prelude.{ℕ, suc, ◌+◌, ◌-◌, pos, Bool, nat_le, nat_lt, max, List, [], ◌∷◌, ◌++◌, map, fold, count_by, Option, None, unwrap_or, if◌then◌else◌}
 use Rattle.entry_log.specs.Log.{end_after}
 use Rattle.entry_log.specs.Quorum.{is_quorum}
 use Rattle.entry_log.specs.declared.name.LogName.{LogName}
 use Rattle.sbe_events.specs.declared.event.Event.{Event}
 use Rattle.sbe_events.specs.declared.event.Event.TheVariants as event
 use Rattle.election.specs.declared.member.State.{State}
-use Rattle.election.specs.declared.member.State.TheVariants.{Init, Canvass, Nominate, CandidateBallot, FollowerBallot, LeaderInit, LeaderReady, FollowerLogReplication, FollowerReady, Closed}
+use Rattle.election.specs.declared.member.State.TheVariants.{LeaderInit, LeaderReady}
 use Rattle.election.specs.declared.member.Election.{Election}
 use Rattle.election.specs.Rows.{enter_canvass, duty}
-use Rattle.cluster_run.specs.Module.{event_len, place_of, place_from, last_term}
+use Rattle.cluster_run.specs.Module.{event_len, place_of, last_term}
 
 -- a member: what the election reads, the log, how many entries are committed, where its own term begins to count, and of
 -- each other member what it has said to hold, and when it was last heard

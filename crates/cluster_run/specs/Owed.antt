@@ -1,8 +1,7 @@
 -- What an entry of the log owes to clients, as the module and the echo service have it.
-use Rattle.std.specs.Prelude.{ℕ, suc, ◌+◌, ℤ, pos, negsuc, Bool, true, false, ◌&&◌, nat_le, List, [], ◌∷◌, ◌++◌, length, Option, Some, None, if◌then◌else◌}
+use Rattle.std.specs.Prelude.{ℕ, suc, ◌+◌, ℤ, nat_le, List, [], ◌∷◌, ◌++◌, length, Option, Some, None, if◌then◌else◌}
 use Rattle.sbe_events.specs.declared.event.Event.{Event}
 use Rattle.sbe_events.specs.declared.event.Event.TheVariants as event
-use Rattle.sbe_client.specs.declared.egress.Egress.{Egress}
 use Rattle.sbe_client.specs.declared.egress.Egress.TheVariants as egress
 use Rattle.service_api.specs.declared.output.Output.{Output}
 use Rattle.service_api.specs.declared.output.Output.TheVariants as output

@@ -1,5 +1,5 @@
 -- The report of a world, and all that a run writes.
-use Rattle.std.specs.Prelude.{ℕ, zero, suc, ◌+◌, ℤ, pos, negsuc, Bool, List, [], ◌∷◌, ◌++◌, drop, map, filter, length, codes, Option, Some, None}
+use Rattle.std.specs.Prelude.{ℕ, zero, suc, pos, List, [], ◌∷◌, ◌++◌, drop, map, filter, length, codes, Option, Some, None}
 use Rattle.std.specs.List.{flat_map}
 use Rattle.std.specs.Fmt.{decimal, signed_decimal}
 use Rattle.entry_log.specs.Log.{same_term}
@@ -11,7 +11,6 @@ use Rattle.cluster_run.specs.Module.{term_of}
 use Rattle.cluster_run.specs.Text.{report_text}
 use Rattle.cluster_run.specs.World.{World, world_after}
 use Rattle.cluster_run.specs.declared.report.EntryLine.{EntryLine}
-use Rattle.cluster_run.specs.declared.report.ServiceRun.{ServiceRun}
 use Rattle.cluster_run.specs.declared.report.RecordLine.{RecordLine}
 use Rattle.cluster_run.specs.declared.report.StreamLines.{StreamLines}
 use Rattle.cluster_run.specs.declared.report.MemberEnd.{MemberEnd}

@@ -1,5 +1,5 @@
 -- The text of a report: one line for each thing that is told, each ended by a line feed.
-use Rattle.std.specs.Prelude.{ℕ, ℤ, List, [], ◌∷◌, ◌++◌, length, codes}
+use Rattle.std.specs.Prelude.{ℕ, ℤ, List, ◌++◌, length, codes}
 use Rattle.std.specs.List.{flat_map}
 use Rattle.std.specs.Fmt.{decimal, signed_decimal}
 use Rattle.cluster_run.specs.Pieces.{hex_text, newline, count, value}

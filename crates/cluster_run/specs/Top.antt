@@ -1,5 +1,5 @@
 -- What the top call decides before it writes: an answer and its text.
-use Rattle.std.specs.Prelude.{◌≡◌, ◌⊎◌, ℕ, ◌≤◌, ◌<◌, Bool, true, false, IsTrue, List, [], ◌∷◌, length, codes, bytes_eq}
+use Rattle.std.specs.Prelude.{◌≡◌, ℕ, ◌≤◌, ◌<◌, Bool, true, false, IsTrue, List, [], ◌∷◌, length, codes, bytes_eq}
 use Rattle.cl_base.specs.Counts.{Rose}
 use Rattle.cluster_run.specs.Answer.{IsAnswerTo}
 use Rattle.cluster_run.specs.Status.{status_text}

@@ -1,6 +1,5 @@
 -- The world of one member with the echo service: what orders and rounds make of it.
-use Rattle.std.specs.Prelude.{ℕ, zero, suc, ◌+◌, ◌-◌, ℤ, pos, negsuc, Bool, true, false, ◌&&◌, nat_le, nat_lt, List, [], ◌∷◌, ◌++◌, take, drop, map, fold, length, slice_index, slice_set, replicate, Option, Some, None, if◌then◌else◌}
-use Rattle.std.specs.List.{flat_map}
+use Rattle.std.specs.Prelude.{ℕ, zero, suc, ◌+◌, ◌-◌, ℤ, pos, negsuc, Bool, true, false, ◌&&◌, nat_le, nat_lt, List, [], ◌∷◌, ◌++◌, take, drop, fold, length, slice_index, slice_set, replicate, Option, Some, None, if◌then◌else◌}
 use Rattle.entry_log.specs.Log.{same_term}
 use Rattle.election.specs.declared.member.State.{State}
 use Rattle.election.specs.declared.member.State.TheVariants.{LeaderReady}
@@ -13,11 +12,9 @@ use Rattle.sbe_events.specs.declared.event.Event.TheVariants as event
 use Rattle.sbe_client.specs.declared.egress.Egress.{Egress}
 use Rattle.sbe_client.specs.declared.egress.Egress.TheVariants as egress
 use Rattle.cluster_run.specs.LeaderRows.{Member, duty_of, appends}
-use Rattle.cluster_run.specs.Module.{term_of, event_len, place_of, module_of, module_after, session_of}
+use Rattle.cluster_run.specs.Module.{term_of, place_of, module_of, module_after, session_of}
 use Rattle.cluster_run.specs.Owed.{owed}
-use Rattle.cluster_run.specs.declared.report.Origin.{Origin}
 use Rattle.cluster_run.specs.declared.report.Origin.TheVariants as origin
-use Rattle.cluster_run.specs.declared.module.Session.{Session}
 use Rattle.cluster_run.specs.declared.module.Module.{Module}
 use Rattle.cluster_run.specs.declared.clients.Known.{Known}
 use Rattle.cluster_run.specs.declared.sent.Sent.{Sent}

@@ -77,13 +77,13 @@ pub fn cluster_main<I: Source, O: Sink>(
     ensures written { IsTrue (I.tells source.old) → IsTrue (O.tells sink.old) → result ≡ Status.Done → O.held sink.new ≡ O.held sink.old ++ run_text (orders_of (I.left source.old)) }
 
     // In that world the service has consumed a front of the printed log.
-    ensures inputs { IsTrue (I.tells source.old) → result ≡ Status.Done → (world_after (orders_of (I.left source.old))).inputs ≡ take (length (world_after (orders_of (I.left source.old))).inputs) (world_after (orders_of (I.left source.old))).printed }
+    ensures inputs { IsTrue (I.tells source.old) → result ≡ Status.Done → let w = world_after (orders_of (I.left source.old)) in w.inputs ≡ take (length w.inputs) w.printed }
     // Each record that was sent for an entry is owed by that entry of the printed log: the same egress on the same stream.
-    ensures owed { IsTrue (I.tells source.old) → result ≡ Status.Done → All (IsOwed (world_after (orders_of (I.left source.old))).printed) (world_after (orders_of (I.left source.old))).sent }
+    ensures owed { IsTrue (I.tells source.old) → result ≡ Status.Done → let w = world_after (orders_of (I.left source.old)) in All (IsOwed w.printed) w.sent }
     // No two of them have the same entry, service (or the module) and number.
     ensures once { IsTrue (I.tells source.old) → result ≡ Status.Done → AllPairs IsOther (world_after (orders_of (I.left source.old))).sent }
     // Each was sent in a phase that began with the member LEADER_READY in the entry's term.
-    ensures led { IsTrue (I.tells source.old) → result ≡ Status.Done → All (IsSentByLeader (phases_of (orders_of (I.left source.old))) (world_after (orders_of (I.left source.old))).printed) (world_after (orders_of (I.left source.old))).sent }
+    ensures led { IsTrue (I.tells source.old) → result ≡ Status.Done → let w = world_after (orders_of (I.left source.old)) in All (IsSentByLeader (phases_of (orders_of (I.left source.old))) w.printed) w.sent }
     // Each printed entry has the term of the last new term event up to it, and that event names the member.
     ensures named { IsTrue (I.tells source.old) → result ≡ Status.Done → IsLedBy (pos 0) no_reign (world_after (orders_of (I.left source.old))).printed }
 

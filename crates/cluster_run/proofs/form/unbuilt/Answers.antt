@@ -1,6 +1,5 @@
-use Rattle.std.proofs.Common.{◌≡◌, ◌∙◌, sym, ap, add-one, Some, arith}
+use Rattle.std.proofs.Common.{◌∙◌, sym, ap, add-one, Some, arith}
 use Rattle.scenario.specs.declared.fault.Cause.TheVariants.{NotBuilt}
-use Rattle.scenario.specs.declared.fault.Refusal.{Refusal}
 use Rattle.cluster_run.proofs.Forms.{goes_on, ends_at, fits_few, none_left}
 use Rattle.cluster_run.proofs.form.unbuilt.Goals as goal
 

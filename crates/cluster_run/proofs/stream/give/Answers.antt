@@ -1,4 +1,4 @@
-use Rattle.std.proofs.Common.{arith, ◌∙◌, ◌≤◌, ◌≡◌, ◌-◌, ◌+◌, length, IsTrue}
+use Rattle.std.proofs.Common.{arith, ◌∙◌}
 use Rattle.cluster_run.proofs.Parts.{front_more}
 use Rattle.cluster_run.proofs.stream.give.Goals as goal
 

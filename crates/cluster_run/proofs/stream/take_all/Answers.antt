@@ -1,4 +1,4 @@
-use Rattle.std.proofs.Common.{◌≡◌, ⊎_elim, length, arith, IsTrue}
+use Rattle.std.proofs.Common.{◌≡◌, ⊎_elim, length, arith}
 use Rattle.cluster_run.proofs.Parts.{all_read}
 use Rattle.cluster_run.proofs.stream.take_all.Goals as goal
 

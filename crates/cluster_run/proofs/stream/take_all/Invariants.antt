@@ -1,4 +1,4 @@
-use Rattle.std.proofs.Common.{length, ◌-◌, ◌≡◌, ◌≤◌, ◌++◌, ℕ, IsTrue, take, List, Bool}
+use Rattle.std.proofs.Common.{length, ◌-◌, ◌≡◌, ◌≤◌, ◌++◌, ℕ, IsTrue, List, Bool}
 use Rattle.cluster_run.proofs.stream.take_all.Given as goal
 
 -- what was read and what is left are what the source had

@@ -1,7 +1,6 @@
 use Rattle.std.proofs.Common.{◌++◌, codes, string_bytes, to_z-of_z}
-use Rattle.std.specs.Fmt.{decimal, signed_decimal}
 use Rattle.std.proofs.lemmas.Result.{on_ok_weaker}
-use Rattle.cluster_run.specs.Pieces.{hex_text, newline, count, value}
+use Rattle.cluster_run.specs.Pieces.{hex_text, value}
 use Rattle.cluster_run.specs.Text.{open_front}
 use Rattle.cluster_run.proofs.Chains.{joined}
 use Rattle.cluster_run.proofs.text.put_open.Goals as goal

@@ -1,7 +1,6 @@
 use Rattle.std.proofs.Common.{◌++◌, codes, string_bytes, to_z-of_z}
-use Rattle.std.specs.Fmt.{decimal, signed_decimal}
 use Rattle.std.proofs.lemmas.Result.{on_ok_weaker}
-use Rattle.cluster_run.specs.Pieces.{hex_text, newline, count, value}
+use Rattle.cluster_run.specs.Pieces.{value}
 use Rattle.cluster_run.proofs.Chains.{joined}
 use Rattle.cluster_run.proofs.text.put_term.Goals as goal
 

@@ -1,4 +1,4 @@
-use Rattle.std.proofs.Common.{◌≡◌, ◌≤◌, ◌++◌, ◌∷◌, [], sym, ◌∙◌, ap, subst, ℕ}
+use Rattle.std.proofs.Common.{◌≤◌, ◌∙◌, ap, subst, ℕ}
 use Rattle.std.proofs.lemmas.Result.{on_ok_weaker}
 use Rattle.entry_log.specs.declared.name.LogName.{LogName}
 use Rattle.cluster_run.specs.Module.{term_of}

@@ -1,4 +1,4 @@
-use Rattle.std.proofs.Common.{◌≡◌, ◌+◌, ◌≤◌, ◌<◌, ◌++◌, ◌∷◌, [], sym, ◌∙◌, ap, subst, arith, ℕ}
+use Rattle.std.proofs.Common.{◌+◌, sym, subst}
 use Rattle.sbe_events.specs.Spelling.{HasSpelling}
 use Rattle.cluster_run.specs.Driver.{IsAlone, world_of}
 use Rattle.cluster_run.proofs.Driving.{kept_elected, canvass_alone, no_room, reigns, kept_reigning, new_term_spelled, ends_behind}
