@@ -5,7 +5,7 @@ use Rattle.std.proofs.lemmas.Bool.{le-leb, eq-eqb, lt-leb}
 use Rattle.wire_prims.specs.Fields.{u16_at, i32_at}
 use Rattle.wire_prims.specs.Header.{bad}
 use Rattle.wire_prims.specs.Strict.{◌or_else◌, unless, rules_fault, rules_size, strict_fault}
-use Rattle.wire_prims.specs.StrictLaws.{IsStrict, strict_none}
+use Rattle.wire_prims.specs.StrictLaws.{strict_none}
 use Rattle.wire_prims.specs.declared.fault.Bad.{Bad}
 use Rattle.wire_prims.specs.declared.fault.BadCause.TheVariants as causes
 use Rattle.wire_prims.specs.declared.strict.Tail.TheVariants.{Nothing, Rest}

@@ -1,9 +1,9 @@
 -- The first fault of an event stands within its bytes.
-use Rattle.std.proofs.Common.{◌≡◌, ℕ, ◌+◌, ◌-◌, ◌<◌, ◌≤◌, Bool, true, false, cond, List, [], ◌∷◌, length, Option, Some, None, Ok, Err, refl, arith}
+use Rattle.std.proofs.Common.{◌≡◌, ℕ, ◌+◌, ◌-◌, ◌≤◌, Bool, true, false, cond, List, [], ◌∷◌, length, Option, Some, None, Ok, Err, refl, arith}
 use Rattle.std.specs.Prelude.{nat_le, nat_lt, ◌==◌}
 use Rattle.std.proofs.lemmas.Bool.{leb-true, leb-false, ltb-false}
 use Rattle.wire_prims.specs.Fields.{u16_at, u32_at}
-use Rattle.wire_prims.specs.Header.{bad, numbers_of, header_of}
+use Rattle.wire_prims.specs.Header.{bad, numbers_of}
 use Rattle.wire_prims.specs.Strict.{◌or_else◌, unless, rule_size, rules_size, passes, rules_fault, tail_there, tail_fault, strict_fault}
 use Rattle.wire_prims.specs.declared.fault.Bad.{Bad}
 use Rattle.wire_prims.specs.declared.fault.BadCause.TheVariants as causes

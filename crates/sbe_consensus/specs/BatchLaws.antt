@@ -23,7 +23,7 @@ pub shifted_none : (by : ℕ) (o : Option Bad) → shifted by o ≡ None → o �
 shifted_none by None e = refl
 shifted_none by (Some b) e = absurd cc
 
-there_parts : (n at : ℕ) (bytes : List ℕ) → parts_there (suc n) at bytes ≡ true → (part_end at bytes ≤ length bytes) × (parts_there n (part_end at bytes) bytes ≡ true)
+pub there_parts : (n at : ℕ) (bytes : List ℕ) → parts_there (suc n) at bytes ≡ true → (part_end at bytes ≤ length bytes) × (parts_there n (part_end at bytes) bytes ≡ true)
 there_parts n at bytes e =
     let a = and_parts (nat_le (at + 4) (length bytes) && nat_le (part_end at bytes) (length bytes)) (parts_there n (part_end at bytes) bytes) e in
     let b = and_parts (nat_le (at + 4) (length bytes)) (nat_le (part_end at bytes) (length bytes)) a.0 in

@@ -2,3 +2,4 @@ pub mod Templates
 pub mod Spelling
 pub mod BatchLaws
 pub mod Laws
+pub mod PrefixLaws

@@ -1,5 +1,5 @@
 // Bytes from packets.
-ghost use Rattle.std.specs.Prelude.{◌≡◌, ◌<◌, ◌≤◌, ◌^◌, ◌++◌, [], Some, OnOk, IfOk, length};
+ghost use Rattle.std.specs.Prelude.{◌≡◌, ◌<◌, ◌≤◌, ◌^◌, ◌++◌, List, [], ℕ, Some, OnOk, IfOk, length};
 ghost use Rattle.wire_prims.specs.Strict.{block_size, message};
 ghost use Rattle.sbe_consensus.specs.Spelling.{HasSpelling, AreEntries, spelling_of, packet_of, entries_bytes};
 ghost use Rattle.sbe_consensus.specs.declared.packet.Packet.{Packet};
@@ -46,6 +46,8 @@ pub fn encode_packet(alloc: Global, p: &Packet) -> Result<Bytes, NoMemory>
     ensures read_again { packet_of (spelling_of p.now) ≡ Some p.now }
     // No other packet has this spelling.
     ensures alone { (other : Packet) → HasSpelling other → spelling_of other ≡ spelling_of p.now → other ≡ p.now }
+    // Nor does another one's spelling begin with it.
+    ensures prefix_free { (other : Packet) (rest : List ℕ) → HasSpelling other → spelling_of other ≡ spelling_of p.now ++ rest → rest ≡ [] }
 {
     spelled(alloc, p)
 }

@@ -10,3 +10,6 @@ mod template;
 pub use decode::decode_packet;
 pub use encode::encode_packet;
 pub use packet::{Outgoing, Packet};
+
+#[cfg(test)]
+mod tests;

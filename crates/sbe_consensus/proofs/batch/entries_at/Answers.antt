@@ -1,6 +1,4 @@
-use Rattle.std.proofs.Common.{rules, ◌≡◌, ◌+◌, ◌≤◌, ◌++◌, ◌∷◌, [], length, sym, ◌∙◌, ap, subst, arith}
-use Rattle.std.specs.Prelude.{IsSome}
-use Rattle.sbe_events.specs.Spelling as events
+use Rattle.std.proofs.Common.{◌≡◌, ◌+◌, arith}
 use Rattle.sbe_consensus.specs.Spelling.{part_end, part_at}
 use Rattle.sbe_consensus.proofs.Parts.{first_there, part_slice, part_free, spells_one, entry_is, grown}
 use Rattle.sbe_consensus.proofs.batch.entries_at.Goals as goal

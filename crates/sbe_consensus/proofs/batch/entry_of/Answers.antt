@@ -1,4 +1,4 @@
-use Rattle.std.proofs.Common.{rules, FitsSigned, w64, sym, ◌∙◌}
+use Rattle.std.proofs.Common.{rules, FitsSigned, w64, ◌∙◌}
 use Rattle.std.proofs.lemmas.Int.{to_z-of_z}
 use Rattle.sbe_consensus.proofs.Parts.{event_there, event_term_at}
 use Rattle.sbe_consensus.proofs.batch.entry_of.Goals as goal
