@@ -106,23 +106,24 @@ moves slots id me new not may more less s h _ at _ = let mine = h.6 id me.0 at i
 )
 
 -- the feeder loads word 1
-pub asks : (slots id : ℕ) (me : Seat) → me.0.feeds ≡ true
+pub asks : (slots id : ℕ) (me : Seat) → me.0.feeds ≡ true → me.0.polls ≡ false
     → Allows Counted slots id me 1 (λ n. n) (Asked (step slots 1 0 0 none) me)
-asks slots id me may s h _ at _ = let mine = h.6 id me.0 at in let r : ℕ = get_or s.words 1 0 in let is : r ≡ h.3 = word1 s.words h.2 h.3 h.4 in let old : me.0.word ≡ h.2 = (mine.0 may).1 in (
-  me.0,
-  keeps,
-  tt,
-  (
-    h.0,
-    h.1,
-    h.2,
-    h.3,
-    ap (λ l. set l 1 r) h.4 ∙ ap (λ n. h.2 ∷ n ∷ []) is,
-    h.5,
-    subst (All (Fits h.0 h.1 h.2 h.3)) (sym (set_again s.views id me.0 at)) h.6,
-  ),
-  (refl, (let le = h.5 in omega arith), (let le = (mine.0 may).2 in omega arith)),
-)
+asks slots id me may not s h _ at _ = let mine = h.6 id me.0 at in let r : ℕ = get_or s.words 1 0 in let w : Known = record me.0 { found = r } in
+    let is : r ≡ h.3 = word1 s.words h.2 h.3 h.4 in let old : me.0.word ≡ h.2 = (mine.0 may).1 in (
+      w,
+      keeps,
+      tt,
+      (
+        h.0,
+        h.1,
+        h.2,
+        h.3,
+        ap (λ l. set l 1 r) h.4 ∙ ap (λ n. h.2 ∷ n ∷ []) is,
+        h.5,
+        all_set (Fits h.0 h.1 h.2 h.3) s.views id w ((λ _. ((mine.0 may).0, (mine.0 may).1, omega arith)), λ p. absurd (true≢false (sym p ∙ not))) (λ j u other e. h.6 j u e),
+      ),
+      (refl, (let le = h.5 in omega arith), (let le = (mine.0 may).2 in omega arith)),
+    )
 
 -- who publishes and polls loads word 0
 pub settles : (slots id : ℕ) (me : Seat) → me.0.feeds ≡ true → me.0.polls ≡ true
@@ -141,12 +142,12 @@ settles slots id me a b s h _ at _ = let mine = h.6 id me.0 at in let r : ℕ = 
         h.5,
         subst (All (Fits h.0 h.1 h.2 h.3)) (sym (set_again s.views id me.0 at)) h.6,
       ),
-      (refl, is ∙ sym old, (let le = my.2 in let e = my.1 in omega arith), (let le = my.3 in omega arith), λ odd. my.4 odd ∙ sym is),
+      (refl, is ∙ sym old, (let le = my.2 in let e = my.1 in omega arith), (let le = my.3 in omega arith), (λ odd. my.4 odd ∙ sym is), (let le = (mine.0 a).2 in let e = my.1 in omega arith)),
     )
 
 pub splits : (id : ℕ) (v : Known) → v.feeds ≡ true → v.polls ≡ true → Splits Counted id v (feeder_of v) (poller_of v)
 splits id v a b s h at = let l : Known = feeder_of v in let r : Known = poller_of v in let mine = h.6 id v at in let my = mine.1 b in let vs : List Known = set s.views id l in
-    let Old : ℕ → Known → Type 0 = λ j u. (u.feeds ≡ true → (j ≡ h.0) × (u.word ≡ h.2) × (u.position ≤ h.3)) × (u.polls ≢ true) in
+    let Old : ℕ → Known → Type 0 = λ j u. (u.feeds ≡ true → (j ≡ h.0) × (u.word ≡ h.2) × (u.found ≤ h.3)) × (u.polls ≢ true) in
     let old : All Old vs = all_set Old s.views id l ((λ _. mine.0 a), λ p. true≢false (sym p)) (λ j u other e. ((h.6 j u e).0, λ p. other (((h.6 j u e).1 p).0 ∙ sym my.0))) in (
       h.0,
       length vs,
@@ -173,5 +174,5 @@ pub joins : (id : ℕ) (v : Known) (other : ℕ) (u : Known) → v.feeds ≡ tru
 joins id v other u a b s h at two at' = let both : Known = both_of v u in let mine = h.6 id v at in let vs : List Known = set s.views id both in
     let was : get_elem? s.views other ≡ some u = ⊎_elim (λ x. absurd (two x.0)) (λ x. x.1) (at_set s.views id other both u at') in let theirs = (h.6 other u was).1 b in
     let Now : ℕ → Known → Type 0 = λ j y. j ≢ other → Fits h.0 id h.2 h.3 j y in
-    let now : All Now vs = all_set Now s.views id both (λ _. ((λ _. ((mine.0 a).0, (mine.0 a).1, (let e = theirs.1 in omega arith))), λ _. (refl, theirs.1, theirs.2, theirs.3, theirs.4))) (λ j y _ e apart. ((h.6 j y e).0, λ p. absurd (apart (((h.6 j y e).1 p).0 ∙ sym theirs.0)))) in
+    let now : All Now vs = all_set Now s.views id both (λ _. ((λ _. mine.0 a), λ _. (refl, theirs.1, theirs.2, theirs.3, theirs.4))) (λ j y _ e apart. ((h.6 j y e).0, λ p. absurd (apart (((h.6 j y e).1 p).0 ∙ sym theirs.0)))) in
     (h.0, id, h.2, h.3, h.4, h.5, all_set (Fits h.0 id h.2 h.3) vs other nobody ((λ p. absurd (true≢false (sym p))), λ p. absurd (true≢false (sym p))) (λ j y apart e. now j y e apart))

@@ -9,7 +9,7 @@ pub record Name : Type 0 where
   pub queue : TableId
   pub words : TableId
 
--- the driver's end: where the image begins, what was fed, what was published, whether the end was, and what the member was as the phase began
+-- the driver's end: where the image begins, what was fed, what was published, whether the end was, what the member was as the phase began, and how far the service was found to have taken
 pub record Fed : Type 0 where
   pub name : Name
   pub start : ℕ
@@ -17,6 +17,7 @@ pub record Fed : Type 0 where
   pub commit : ℕ
   pub ended : Bool
   pub role : Role
+  pub found : ℕ
 
 -- the service's end: where the image begins, what was taken, the commit that was seen last, and whether the end was seen with it
 pub record Polled : Type 0 where

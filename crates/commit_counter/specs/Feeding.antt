@@ -1,5 +1,5 @@
 -- What a feed's fields say, and the facts that tie them.
-use Rattle.std.specs.Prelude.{◌≡◌, ◌+◌, ◌/◌, ◌%◌, ◌^◌, ◌<◌, ◌==◌, true, false, [], length}
+use Rattle.std.specs.Prelude.{◌≡◌, ◌+◌, ◌/◌, ◌%◌, ◌^◌, ◌<◌, ◌≤◌, ◌==◌, true, false, [], length}
 use Rattle.std.specs.Arc.{arc_value}
 use Rattle.crossbeam_queue.specs.Passes.{view, IsPassOf}
 use Rattle.commit_counter.specs.declared.feed.Feed.TheInside.{Inside}
@@ -15,6 +15,7 @@ fed_of f =
       commit = f.word / 2;
       ended = f.word % 2 == 1;
       role = f.role;
+      found = f.seat.me.0.found;
     }
 
 pub record IsFeed (f : Inside) : Type 0 where
@@ -22,6 +23,7 @@ pub record IsFeed (f : Inside) : Type 0 where
   pub pushes : (view f.pass).pushes ≡ true
   pub seat : f.seat.table_id ≡ (arc_value f.image).words.shared.table_id
   pub free : f.seat.me.1 ≡ []
-  pub knows : f.seat.me.0 ≡ known true false f.word 0 f.start
+  pub knows : f.seat.me.0 ≡ known true false f.word 0 0 f.seat.me.0.found
+  pub begun : f.start ≤ f.seat.me.0.found
   pub bound : f.word < 2 ^ 63
   pub count : f.pushed ≡ f.start + length (view f.pass).fed

@@ -21,6 +21,6 @@ pub record IsPoller (p : Inside) : Type 0 where
   pub pops : (view p.pass).pops ≡ true
   pub seat : p.seat.table_id ≡ (arc_value p.image).words.shared.table_id
   pub free : p.seat.me.1 ≡ []
-  pub knows : p.seat.me.0 ≡ known false true 0 p.seen p.position
+  pub knows : p.seat.me.0 ≡ known false true 0 p.seen p.position 0
   pub count : p.position ≡ p.start + length (view p.pass).taken
   pub within : p.position ≤ p.seen / 2

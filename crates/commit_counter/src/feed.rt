@@ -102,9 +102,10 @@ impl Feed {
         self.image.words.shared.wake_one(COMMIT);
     }
 
-    /// How far the service had taken, as this call's step found it.
+    /// How far the service had taken, as this call's step found it. It doesn't fall from call to call.
     pub fn service_position(&mut self) -> u64
-        ensures same { self.new ≡ self.old }
+        ensures found { self.new ≡ record self.old { found = result } }
+        ensures rises { self.old.found ≤ result }
         ensures begun { self.old.start ≤ result }
         ensures within { result ≤ self.old.commit }
     {

@@ -16,7 +16,7 @@ use std::sync::{Arc, Wait};
 /// An image that begins at the entry `start`, with nothing fed and nothing published beyond it.
 pub fn image(alloc: Global, start: u64, role: Role) -> Result<(Feed, Poller), NoMemory>
     requires { start < 2 ^ 62 }
-    ensures feed { IfOk result (λ p. p.0 ≡ record { name = p.0.name; start = start; list = []; commit = start; ended = false; role = role }) }
+    ensures feed { IfOk result (λ p. p.0 ≡ record { name = p.0.name; start = start; list = []; commit = start; ended = false; role = role; found = start }) }
     ensures poller { IfOk result (λ p. p.1 ≡ record { name = p.0.name; start = start; list = []; seen = start; last = false }) }
 {
     let (queue, mut pass) = Line::ruled(alloc, QUEUE_ENTRIES)?;
@@ -54,6 +54,8 @@ pub fn close<R: Wait>(_rt: &R, feed: Feed, poller: Poller) -> u64
     requires ended { feed.ended ≡ true }
     ensures position { result ≡ taken_to poller }
     ensures taken { IsPrefix poller.list feed.list }
+    // No more was found to be taken than was.
+    ensures found { feed.found ≤ result }
     ensures within { result ≤ feed.commit }
     ensures whole { HasEnded poller → result ≡ feed.commit }
 {

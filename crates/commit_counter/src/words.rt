@@ -9,13 +9,15 @@ pub const COMMIT: usize = 0;
 /// Where the service's position stands.
 pub const POSITION: usize = 1;
 
-// What a seat may do, the word 0 that it stored last, the word 0 that it loaded last, and the word 1 that it stored last. No value of it is made.
+// What a seat may do, the word 0 that it stored last, the word 0 that it loaded last, and the word 1 that it stored last
+// and that it loaded last. No value of it is made.
 pub struct Known {
     pub feeds: bool,
     pub polls: bool,
     pub word: u64,
     pub seen: u64,
     pub position: u64,
+    pub found: u64,
 }
 
 pub struct Counting;

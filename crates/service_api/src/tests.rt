@@ -1,5 +1,5 @@
 ghost use Rattle.std.specs.Prelude.{◌≤◌, length, IfOk};
-ghost use Rattle.sbe_events.specs.Spelling.{HasSpelling};
+ghost use Rattle.sbe_events.specs.Spelling.{HasSpelling, IsClient};
 
 use crate::{Kind, Output, Outputs, Shipped};
 use cl_base::{Bytes, NoMemory};
@@ -9,18 +9,46 @@ use std::alloc::Global;
 use std::test::Fail;
 use wire_prims::{Bad, BadCause, DecodeFault};
 
-// What a message of session 1 with this payload brings out.
-fn send(alloc: Global, service: &mut Shipped, payload: &[u8]) -> Result<Outputs, NoMemory>
-    requires { length payload.now ≤ 16384 }
+// What a message of a session with this payload brings out. Its stamp is 410 ms.
+fn send_as(
+    alloc: Global,
+    service: &mut Shipped,
+    session: i64,
+    payload: &[u8],
+) -> Result<Outputs, NoMemory>
+    requires session { IsClient session }
+    requires short { length payload.now ≤ 16384 }
 {
     let e = Event::Message {
         term: 0,
-        session: 1,
+        session,
         stamp: 410,
         payload: Bytes::of(alloc, payload)?,
     };
     let mut out = Outputs::new(alloc);
     service.apply(2, &e, &mut out)?;
+    Ok(out)
+}
+
+// What a message of session 1 with this payload brings out.
+fn send(alloc: Global, service: &mut Shipped, payload: &[u8]) -> Result<Outputs, NoMemory>
+    requires { length payload.now ≤ 16384 }
+{
+    send_as(alloc, service, 1, payload)
+}
+
+// A session is closed.
+fn close(alloc: Global, service: &mut Shipped, session: i64) -> Result<Outputs, NoMemory>
+    requires { IsClient session }
+{
+    let e = Event::Closed {
+        term: 0,
+        session,
+        stamp: 600,
+        reason: 0,
+    };
+    let mut out = Outputs::new(alloc);
+    service.apply(5, &e, &mut out)?;
     Ok(out)
 }
 
@@ -40,17 +68,22 @@ fn offered(alloc: Global, service: &mut Shipped, payload: &[u8]) -> Result<Outpu
     Ok(out)
 }
 
-// The only output, or the first of two, goes to session 1 with this payload.
-fn answers(out: &Outputs, payload: &[u8]) -> bool {
+// The only output, or the first of two, goes to this session with this payload.
+fn tells(out: &Outputs, to: i64, payload: &[u8]) -> bool {
     match out.as_slice().first() {
         Some(
             Output::Egress {
                 session,
                 payload: given,
             },
-        ) => *session == 1 && given.as_slice() == payload,
+        ) => *session == to && given.as_slice() == payload,
         _ => false,
     }
+}
+
+// The same for session 1.
+fn answers(out: &Outputs, payload: &[u8]) -> bool {
+    tells(out, 1, payload)
 }
 
 fn offers(out: &Outputs, payload: &[u8]) -> bool {
@@ -201,15 +234,47 @@ fn a_ticker_schedules_rings_and_forgets(rt: HostRuntime) -> Result<(), Fail> {
     let records = ticker.records()?;
     let wanted = [1, 0, 0, 0, 7, 0, 0, 0, 0, 0, 0, 0, 1, 0, 0, 0, 0, 0, 0, 0];
     assert!(rt; records.as_slice() == wanted.as_slice());
-    let closed = Event::Closed {
-        term: 0,
-        session: 1,
-        stamp: 600,
-        reason: 0,
-    };
-    ticker.apply(5, &closed, &mut Outputs::new(alloc))?;
+    assert_eq!(rt; close(alloc, &mut ticker, 1)?.len(), 0);
     assert_eq!(rt; ring(alloc, &mut ticker, 7)?.len(), 0);
     assert!(rt; ticker.records()?.as_slice() == [0, 0, 0, 0].as_slice());
+    Ok(())
+}
+
+// The payload that sets the timer of an id 100 ms on.
+fn timer(id: u16) -> [u8; 16] {
+    let [low, high] = id.to_le_bytes();
+    [low, high, 0, 0, 0, 0, 0, 0, 100, 0, 0, 0, 0, 0, 0, 0]
+}
+
+#[test]
+fn a_full_ticker_takes_no_further_id(rt: HostRuntime) -> Result<(), Fail> {
+    let alloc = rt.alloc();
+    let mut ticker = Shipped::fresh(alloc, Kind::Ticker)?;
+    for id in 0..4096u16 {
+        let out = send(alloc, &mut ticker, &timer(id))?;
+        assert!(rt; schedules(&out, id as i64, 510));
+    }
+    // One id more is neither scheduled nor mapped.
+    assert_eq!(rt; send(alloc, &mut ticker, &timer(4096))?.len(), 0);
+    assert_eq!(rt; ring(alloc, &mut ticker, 4096)?.len(), 0);
+    // An id that is there still is, and now belongs to the session that asked last.
+    let out = send_as(alloc, &mut ticker, 2, &timer(4095))?;
+    assert_eq!(rt; out.len(), 1);
+    assert!(rt; schedules(&out, 4095, 510));
+    let last = [0xff, 15, 0, 0, 0, 0, 0, 0];
+    assert!(rt; tells(&ring(alloc, &mut ticker, 4095)?, 2, &last));
+    let records = ticker.records()?;
+    assert_eq!(rt; records.len(), 65_540);
+    assert!(rt; Shipped::of_records(alloc, Kind::Ticker, records.as_slice()).is_ok());
+    // A close removes the ids of its session, and no other one. Then there is room again.
+    close(alloc, &mut ticker, 1)?;
+    assert_eq!(rt; ring(alloc, &mut ticker, 4094)?.len(), 0);
+    let wanted = [
+        1, 0, 0, 0, 0xff, 15, 0, 0, 0, 0, 0, 0, 2, 0, 0, 0, 0, 0, 0, 0,
+    ];
+    assert!(rt; ticker.records()?.as_slice() == wanted.as_slice());
+    let out = send(alloc, &mut ticker, &timer(4096))?;
+    assert!(rt; schedules(&out, 4096, 510));
     Ok(())
 }
 
@@ -232,7 +297,14 @@ fn records_of_a_ticker_are_read_up_to_their_first_fault(rt: HostRuntime) -> Resu
             BadCause::Trailing
         )
     );
-    bytes[20] = 7;
+    // The second id is 7, 6 and 5 behind a 7: it isn't above the first one. Its session need not be there.
+    for (id, end) in [(7, 37), (6, 36), (5, 28)] {
+        bytes[20] = id;
+        let read = Shipped::of_records(alloc, Kind::Ticker, &bytes[..end]);
+        assert!(rt; is_bad(read, 20, BadCause::Value));
+    }
+    // The second id is -1.
+    bytes[20..28].fill(0xff);
     assert!(rt;
         is_bad(
             Shipped::of_records(alloc, Kind::Ticker, &bytes),
