@@ -3,8 +3,7 @@ use Rattle.std.proofs.Common.{◌≡◌, ℕ, ℤ, ◌+◌, ◌<◌, ◌≤◌, 
 use Rattle.std.specs.Int.RustNames.{FitsSigned}
 use Rattle.cl_base.specs.Disk.{overwritten}
 use Rattle.cl_base.specs.Images.{length-overwritten, overwritten_other}
-use Rattle.recording_log.specs.declared.entry.RecEntry.{RecEntry}
-use Rattle.wire_prims.specs.Fields.{u32_at, i64_at, i32_at, signed64, signed32, le32, length-signed64, length-signed32, length-le32, i64_at-same, i32_at-same, u32_at-same, i64_at-overwritten, i32_at-overwritten, u32_at-overwritten}
+use Rattle.wire_prims.specs.Fields.{i64_at, signed64, signed32, le32, length-signed64, length-signed32, i64_at-same, i32_at-same, u32_at-same, i64_at-overwritten, i32_at-overwritten, u32_at-overwritten}
 use Rattle.recording_log.specs.Entries.{entry_of}
 
 -- two entries whose first 48 bytes agree

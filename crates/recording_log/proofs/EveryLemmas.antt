@@ -1,11 +1,10 @@
 -- How what each image of a file is goes on, call by call.
 use Rattle.std.specs.Prelude.{◌&&◌, ◌||◌, nat_le, nat_lt, if◌then◌else◌}
 use Rattle.std.proofs.Common.{◌≡◌, ◌≢◌, ◌⊎◌, inl, inr, ⊎_elim, ℕ, ◌+◌, ◌<◌, ◌≤◌, ◌==◌, Bool, true, false, List, [], ◌∷◌, ◌++◌, length, get_or, refl, sym, ◌∙◌, ap, subst, arith}
-use Rattle.std.proofs.lemmas.Bool.{cases_Bool, cases_eq, cond-true, cond-false, eq-eqb, ne_eqb, le-leb, lt-ltb}
-use Rattle.std.proofs.lemmas.List.{get_or-drop, drop_at}
+use Rattle.std.proofs.lemmas.Bool.{cases_eq, cond-true, eq-eqb, ne_eqb, le-leb, lt-ltb}
 use Rattle.cl_base.specs.Disk.{FileState, DiskState, IsImage, IsImageOf, covers, spot, painted, overwritten, written_file, settled_file, left_by}
-use Rattle.cl_base.specs.Images.{IsSound, length-overwritten, overwritten_other, length-painted, get_or-painted, left_is_image, written_sound}
-use Rattle.cl_base.specs.Torn.{Torn, FromImage, torn_image, settled_image, written_is_torn, MayWrite, MaySync}
+use Rattle.cl_base.specs.Images.{IsSound, length-overwritten, get_or-painted, left_is_image, written_sound}
+use Rattle.cl_base.specs.Torn.{Torn, torn_image, settled_image, written_is_torn, MayWrite}
 use Rattle.cl_base.specs.Through.{TornOnly, IsTornFrom, ThroughLeft}
 use Rattle.cl_base.specs.declared.disk.Choice.{Choice}
 use Rattle.cl_base.specs.declared.disk.Choice.TheVariants.{Drop, Keep, Fill}

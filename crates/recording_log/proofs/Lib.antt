@@ -5,5 +5,6 @@ pub mod HoldLemmas
 pub mod Run
 pub mod StrikeLemmas
 pub mod SetLemmas
+pub mod PartLemmas
 pub mod MountLemmas
 pub mod FaultLemmas

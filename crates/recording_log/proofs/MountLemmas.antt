@@ -1,11 +1,11 @@
 -- The entries of a file, one after another.
-use Rattle.std.proofs.Common.{◌≡◌, ◌≢◌, ◌⊎◌, inl, inr, ℕ, ◌+◌, ◌-◌, ◌*◌, ◌<◌, ◌≤◌, Some, None, List, [], ◌∷◌, ◌++◌, length, take, drop, get_or, if◌then◌else◌, Bool, true, false, refl, sym, ◌∙◌, ap, subst, arith, length-append}
+use Rattle.std.proofs.Common.{◌≡◌, inl, inr, ℕ, ◌+◌, ◌-◌, ◌*◌, ◌<◌, ◌≤◌, Some, None, List, [], ◌∷◌, ◌++◌, length, take, drop, get_or, if◌then◌else◌, Bool, true, false, refl, sym, ◌∙◌, ap, subst, arith, length-append}
 use Rattle.std.proofs.lemmas.Bool.{cases_lt}
 use Rattle.std.proofs.lemmas.List.{get_or-drop, get_or-take, get_or_append_left, get_or-append_right}
-use Rattle.cl_base.specs.Disk.{FileState, DiskState, IsImage, IsImageOf, LeavesOnly}
+use Rattle.cl_base.specs.Disk.{DiskState, IsImage, IsImageOf, LeavesOnly}
 use Rattle.cl_base.specs.Torn.{run_after, weaker}
 use Rattle.recording_log.specs.declared.entry.RecEntry.{RecEntry}
-use Rattle.recording_log.specs.Entries.{entry_of, entry_at, gate_at, open_gate, Begins, Holds, IsWrongAt, IsNext, IsShortAt}
+use Rattle.recording_log.specs.Entries.{entry_of, entry_at, gate_at, Begins, Holds, IsWrongAt, IsNext, IsShortAt}
 use Rattle.recording_log.specs.Valid.{is_term, term_of, terms_of}
 use Rattle.recording_log.proofs.BlockLemmas.{entry_same}
 

@@ -1,12 +1,10 @@
 -- An addition, of its three parts: the entry's bytes, the gate behind it, its own gate.
 use Rattle.std.specs.Prelude.{◌&&◌, if◌then◌else◌}
-use Rattle.std.proofs.Common.{◌≡◌, ◌≢◌, ◌⊎◌, inl, inr, ⊎_elim, ℕ, ◌+◌, ◌-◌, ◌*◌, ◌<◌, ◌≤◌, ◌==◌, Bool, true, false, Some, List, [], ◌∷◌, ◌++◌, length, get_or, Result, Ok, Err, IsTrue, refl, sym, ◌∙◌, ap, subst, arith}
+use Rattle.std.proofs.Common.{◌≡◌, ◌≢◌, inl, inr, ℕ, ◌+◌, ◌-◌, ◌<◌, ◌≤◌, ◌==◌, Bool, false, Some, List, length, Result, Ok, Err, IsTrue, sym, ◌∙◌, subst, arith}
 use Rattle.std.proofs.lemmas.Bool.{cases_eq, eq-eqb, ne_eqb}
-use Rattle.cl_base.specs.Counts.{Rose}
-use Rattle.cl_base.specs.Disk.{FileState, DiskState, IsImage, IsImageOf, Elapses, LeavesOnly, Passes, settled_file, written_file, synced_file, IsTornWrite, ChangeGives, left_by}
+use Rattle.cl_base.specs.Disk.{FileState, DiskState, IsImage, IsImageOf, Elapses, LeavesOnly, Passes, written_file, IsTornWrite, ChangeGives, left_by}
 use Rattle.cl_base.specs.Images.{IsSound, left_is_image}
-use Rattle.cl_base.specs.Torn.{MayWrite, write_may, started, goes_on, run_after, weaker}
-use Rattle.cl_base.specs.Through.{TornOnly, IsTornFrom, ThroughLeft}
+use Rattle.cl_base.specs.Torn.{write_may, started, goes_on}
 use Rattle.cl_base.specs.Fuse.{FuseEnds, Passed, passes_one, refused_at, fuse_then}
 use Rattle.cl_base.specs.declared.disk.Choice.{Choice}
 use Rattle.cl_base.specs.declared.fault.Trouble.{Trouble}

@@ -1,11 +1,11 @@
 -- The latest set, step by step.
 use Rattle.std.specs.Prelude.{slice_get, MatchOption, IsSomeAnd, IfSome}
-use Rattle.std.proofs.Common.{◌≡◌, ◌⊎◌, inl, inr, ℕ, ℤ, pos, ◌+◌, ◌<◌, ◌≤◌, ◌≤ℤ◌, IsTrue, Option, Some, None, List, length, get_or, refl, sym, ◌∙◌, ap, subst, arith}
+use Rattle.std.proofs.Common.{◌≡◌, inl, inr, ℕ, ℤ, pos, ◌+◌, ◌<◌, ◌≤◌, ◌≤ℤ◌, Option, Some, None, List, length, get_or, refl, sym, ◌∙◌, ap, subst, arith}
 use Rattle.std.proofs.lemmas.Bool.{cases_lt}
 use Rattle.std.proofs.lemmas.Int.{ints}
 use Rattle.std.proofs.lemmas.Option.{slice_get_within, slice_get-get_or, get_or_from_slice_get}
 use Rattle.recording_log.specs.declared.entry.RecEntry.{RecEntry}
-use Rattle.recording_log.specs.Sets.{the_module, IsPart, HasPart, HasSet, HasNoSet, IsUpTo, IsLatest, IsCandidate, NoneFrom, IsBest, BestFrom, IsSoFar}
+use Rattle.recording_log.specs.Sets.{the_module, IsPart, HasPart, HasSet, HasNoSet, IsUpTo, IsLatest, IsCandidate, IsBest, IsSoFar}
 
 -- what is read past the end of a list of entries
 abbrev pub zero_entry : RecEntry

@@ -1,18 +1,17 @@
 -- What comes of an entry whose kind's highest byte is written.
-use Rattle.std.specs.Prelude.{◌&&◌, ◌||◌, not, nat_le, nat_eq, if◌then◌else◌, slice_get, slice_set}
+use Rattle.std.specs.Prelude.{not, nat_le, if◌then◌else◌, slice_get, slice_set}
 use Rattle.std.specs.List.{filter}
-use Rattle.std.specs.Int.{from_le_bytes}
-use Rattle.std.proofs.Common.{◌≡◌, ◌≢◌, ◌⊎◌, inl, inr, ℕ, zero, suc, ◌+◌, ◌*◌, ◌<◌, ◌≤◌, ◌^◌, ◌==◌, Bool, true, false, IsTrue, Some, List, [], ◌∷◌, length, drop, get_or, cond, refl, sym, ◌∙◌, ap, subst, arith, w32}
-use Rattle.std.proofs.lemmas.Bool.{cases_eq, cond-true, cond-false, eq-eqb, eqb-true, ne_eqb, and_left, and_right, and_parts, lt-leb}
+use Rattle.std.proofs.Common.{◌≡◌, ◌≢◌, inl, inr, ℕ, zero, suc, ◌+◌, ◌*◌, ◌<◌, ◌≤◌, ◌^◌, ◌==◌, false, IsTrue, Some, List, [], ◌∷◌, length, drop, get_or, refl, sym, ◌∙◌, ap, subst, arith}
+use Rattle.std.proofs.lemmas.Bool.{cases_eq, cond-false, eq-eqb, eqb-true, ne_eqb, and_left, and_right, and_parts, lt-leb}
 use Rattle.std.proofs.lemmas.List.{get_or-drop, get_or-set_same, get_or-set_other, set-get_or, length-set}
 use Rattle.std.proofs.lemmas.Option.{slice_get_within, get_or_from_slice_get}
 use Rattle.cl_base.specs.Disk.{overwritten}
 use Rattle.cl_base.specs.Torn.{Torn}
-use Rattle.wire_prims.specs.Fields.{u32_at, i64_at, i32_at, i64_at-same, i32_at-same}
+use Rattle.wire_prims.specs.Fields.{u32_at, i64_at-same, i32_at-same}
 use Rattle.recording_log.specs.declared.entry.RecEntry.{RecEntry}
-use Rattle.recording_log.specs.Entries.{entry_of, entry_at, gate_at, open_gate, Begins, Holds}
+use Rattle.recording_log.specs.Entries.{entry_of, entry_at, Holds}
 use Rattle.recording_log.specs.Valid.{is_valid, is_term, is_snapshot, valid_of, term_of, terms_of, Stands}
-use Rattle.recording_log.specs.Sets.{IsPart, IsLatest, struck, struck_kind}
+use Rattle.recording_log.specs.Sets.{IsLatest, struck, struck_kind}
 use Rattle.recording_log.proofs.HoldLemmas.{at_same}
 use Rattle.recording_log.proofs.SetLemmas.{latest_once}
 use Rattle.recording_log.proofs.PlaceLemmas.{apart, get_or-written_one, torn_overwritten}

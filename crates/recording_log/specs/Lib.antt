@@ -2,4 +2,5 @@ pub mod Every
 pub mod Entries
 pub mod Valid
 pub mod Sets
+pub mod Parts
 pub mod Steps

@@ -113,7 +113,8 @@ impl RecEntry {
         0 <= self.recording && self.recording < RECORDINGS && is_in_range(self.position)
     }
 
-    fn is_snapshot(&self) -> bool
+    /// A SNAPSHOT entry that counts.
+    pub fn is_snapshot(&self) -> bool
         ensures { result ≡ is_snapshot self.now }
     {
         self.is_valid() && self.kind == SNAPSHOT

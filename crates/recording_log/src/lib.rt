@@ -4,6 +4,7 @@
 mod entry;
 mod file;
 mod log;
+mod parts;
 mod sets;
 
 pub use entry::{RecEntry, SnapshotAt, TermAt};

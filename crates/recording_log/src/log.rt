@@ -13,6 +13,7 @@ ghost use Rattle.recording_log.specs.Steps.{is_open};
 
 use crate::entry::{RecEntry, SnapshotAt, TermAt};
 use crate::file::{FILE, OPEN, add_to_file, strike};
+use crate::parts::Parts;
 use crate::sets::latest_index;
 use cl_base::{Disk, MemberFault, read_some};
 use std::alloc::Global;
@@ -24,23 +25,25 @@ const ENTRIES_LIMIT: usize = 1 << 56;
 /// The kind of an entry that was made invalid.
 const STRUCK_KIND: u32 = 0x8000_0001;
 
-/// The entries of a member's second file, and the leadership terms among them.
+/// The entries of a member's second file, the leadership terms among them, and the parts of sets of snapshots.
 #[derive(Drop)]
 pub struct RecordingLog {
     entries: Vec<RecEntry>,
     terms: Vec<TermAt>,
+    parts: Parts,
 }
 
 impl Model for RecordingLog {
     ghost use Rattle.std.specs.Prelude.{List, ◌≡◌, ◌≤◌, ◌^◌, length};
     ghost use Rattle.recording_log.specs.declared.entry.RecEntry.{RecEntry};
     ghost use Rattle.recording_log.specs.Valid.{terms_of};
+    ghost use Rattle.recording_log.specs.Parts.{Tells};
 
     ghost Value = { List RecEntry };
 
     ghost view = { λ l. l.entries.items };
 
-    ghost invariant = { λ l. (length l.entries.items ≤ 2 ^ 56) × (l.terms.items ≡ terms_of l.entries.items) };
+    ghost invariant = { λ l. (length l.entries.items ≤ 2 ^ 56) × (l.terms.items ≡ terms_of l.entries.items) × Tells l.parts l.entries.items };
 }
 
 /// Has room for one more entry, and gives the place (bytes) at which it comes in the file, or None where no memory is
@@ -127,15 +130,24 @@ impl RecordingLog {
     {
         let mut entries = Vec::new(alloc);
         let mut terms = Vec::new(alloc);
+        let mut parts = Parts::new(alloc);
         'entries: for i in 0..ENTRIES_LIMIT {
             match read_entry(disk, 64 * i as u64) {
                 Ok(Some(entry)) => {
-                    if make_room(&mut entries, &mut terms).is_none() {
+                    if make_room(&mut entries, &mut terms).is_none()
+                        || parts.take_in(entry).is_err()
+                    {
                         return Err(MemberFault::NoMemory);
                     }
                     put_entry(&mut entries, &mut terms, entry);
                 }
-                Ok(None) => return Ok(RecordingLog { entries, terms }),
+                Ok(None) => {
+                    return Ok(RecordingLog {
+                        entries,
+                        terms,
+                        parts,
+                    });
+                }
                 Err(fault) => return Err(fault),
             }
         }
@@ -161,7 +173,7 @@ impl RecordingLog {
     pub fn latest_snapshot(&self, services: u8) -> Option<SnapshotAt>
         ensures { MatchOption result (HasNoSet services self.now) (IsLatestSet services self.now) }
     {
-        match latest_index(&self.entries, services) {
+        match latest_index(&self.entries, &self.parts, services) {
             None => None,
             Some(i) => Some(self.entries[i].as_snapshot()),
         }
@@ -292,11 +304,13 @@ impl RecordingLog {
             (λ left k. (choice : Choice) → Stands (if (k == 1) && takes is_struck choice then valid_of (struck i e self.old) else valid_of self.old) (left_by choice (left.files 1)))
             (D.state disk.old) (D.state disk.new) result }
     {
-        match latest_index(&self.entries, services) {
+        match latest_index(&self.entries, &self.parts, services) {
             None => Ok(false),
             Some(i) => match strike(disk, 64 * i as u64 + 47) {
                 Ok(()) => {
+                    let entry = self.entries[i];
                     self.entries[i].kind = STRUCK_KIND;
+                    self.parts.let_go(&self.entries, entry);
                     Ok(true)
                 }
                 Err(trouble) => Err(MemberFault::from(trouble)),
@@ -334,12 +348,19 @@ impl RecordingLog {
         let Some(at) = make_room(&mut self.entries, &mut self.terms) else {
             return Err(MemberFault::NoMemory);
         };
+        // What may want memory comes before the disk's calls.
+        if self.parts.take_in(entry).is_err() {
+            return Err(MemberFault::NoMemory);
+        }
         match add_to_file(disk, at, &entry.bytes()) {
             Ok(()) => {
                 put_entry(&mut self.entries, &mut self.terms, entry);
                 Ok(())
             }
-            Err(trouble) => Err(MemberFault::from(trouble)),
+            Err(trouble) => {
+                self.parts.let_go(&self.entries, entry);
+                Err(MemberFault::from(trouble))
+            }
         }
     }
 }

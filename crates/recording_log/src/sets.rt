@@ -1,39 +1,29 @@
 // The latest set of snapshots.
-ghost use Rattle.std.specs.Prelude.{◌≡◌, ◌+◌, ◌<◌, length, IsTrue, IsFalse, ◌↔◌, IfSome, IsSomeAnd, MatchOption, Some, slice_get};
+ghost use Rattle.std.specs.Prelude.{◌≡◌, ◌+◌, ◌<◌, List, length, IsTrue, IsFalse, ◌↔◌, IfSome, IsSomeAnd, MatchOption, Some, slice_get};
 ghost use Rattle.recording_log.specs.declared.entry.RecEntry.{RecEntry};
-ghost use Rattle.recording_log.specs.Sets.{HasPart, HasSet, HasNoSet, IsLatest, IsUpTo, IsCandidate, IsSoFar};
+ghost use Rattle.recording_log.specs.Sets.{HasSet, HasNoSet, IsLatest, IsUpTo, IsCandidate, IsSoFar};
+ghost use Rattle.recording_log.specs.Parts.{Tells};
 
 use crate::entry::{MODULE, RecEntry};
-
-/// One of the entries is a valid SNAPSHOT entry of this service, and of the term and position of that entry.
-fn has_part(entries: &[RecEntry], of: RecEntry, service: i32) -> bool
-    ensures { IsTrue result ↔ HasPart entries.now of.term of.position service }
-{
-    for e in entries {
-        if e.is_part(of, service) {
-            return true;
-        }
-    }
-    false
-}
+use crate::parts::Parts;
 
 /// The set of the entry's term and position is valid.
-fn has_set(entries: &[RecEntry], services: u8, of: RecEntry) -> bool
-    ensures { IsTrue result ↔ HasSet services entries.now of.term of.position }
+fn has_set(parts: &Parts, services: u8, of: RecEntry) -> bool
+    ensures { (entries : List RecEntry) → Tells parts.now entries → IsTrue result ↔ HasSet services entries of.term of.position }
 {
     for s in 0..services {
-        if !has_part(entries, of, i32::from(s)) {
+        if !parts.has(of, i32::from(s)) {
             return false;
         }
     }
-    has_part(entries, of, MODULE)
+    parts.has(of, MODULE)
 }
 
 /// The entry is the module's of a valid set.
-fn is_candidate(entries: &[RecEntry], services: u8, e: RecEntry) -> bool
-    ensures { IsTrue result ↔ IsCandidate services entries.now e }
+fn is_candidate(parts: &Parts, services: u8, e: RecEntry) -> bool
+    ensures { (entries : List RecEntry) → Tells parts.now entries → IsTrue result ↔ IsCandidate services entries e }
 {
-    e.is_part(e, MODULE) && has_set(entries, services, e)
+    e.is_part(e, MODULE) && has_set(parts, services, e)
 }
 
 /// A set of the first entry's term and position is later than one of the second's.
@@ -66,7 +56,14 @@ fn is_behind(entries: &[RecEntry], e: RecEntry, latest: Option<usize>) -> bool
 }
 
 /// The latest one from index i on, given the latest one behind it.
-fn latest_from(entries: &[RecEntry], services: u8, i: usize, latest: Option<usize>) -> Option<usize>
+fn latest_from(
+    entries: &[RecEntry],
+    parts: &Parts,
+    services: u8,
+    i: usize,
+    latest: Option<usize>,
+) -> Option<usize>
+    requires tells { Tells parts.now entries.now }
     requires here { i < length entries.now }
     requires so_far { IsSoFar services entries.now (i + 1) latest }
     ensures { IsSoFar services entries.now i result }
@@ -75,15 +72,16 @@ fn latest_from(entries: &[RecEntry], services: u8, i: usize, latest: Option<usiz
     if is_behind(entries, e, latest) {
         return latest;
     }
-    if is_candidate(entries, services, e) {
+    if is_candidate(parts, services, e) {
         return Some(i);
     }
     latest
 }
 
-/// The index of the module's entry of the latest valid set. It walks from the end, and looks at a set as a whole only
-/// where it would be later than the one that it has: in a log that grew this is one walk and a look at one set.
-pub fn latest_index(entries: &[RecEntry], services: u8) -> Option<usize>
+/// The index of the module's entry of the latest valid set. It walks from the end, and asks at each entry for the
+/// parts of its set: its time is linear in the number of entries, but for the logarithm of each search, on any log.
+pub fn latest_index(entries: &[RecEntry], parts: &Parts, services: u8) -> Option<usize>
+    requires { Tells parts.now entries.now }
     ensures within { IfSome result (λ i. i < length entries.now) }
     ensures latest { MatchOption result (HasNoSet services entries.now) (λ i. (e : RecEntry) → slice_get entries.now i ≡ Some e → IsLatest services entries.now i e) }
 {
@@ -91,7 +89,7 @@ pub fn latest_index(entries: &[RecEntry], services: u8) -> Option<usize>
     let mut i = entries.len();
     while i > 0 {
         i -= 1;
-        latest = latest_from(entries, services, i, latest);
+        latest = latest_from(entries, parts, services, i, latest);
     }
     latest
 }

@@ -1,9 +1,8 @@
 -- Each exit of the addition.
-use Rattle.std.specs.Prelude.{if◌then◌else◌}
-use Rattle.std.proofs.Common.{◌≡◌, ℕ, ◌+◌, ◌*◌, ◌==◌, inl, List, [], ◌∷◌, ◌++◌, length, get_or, IsTrue, refl, sym, subst, ap, arith, ◌<◌}
+use Rattle.std.proofs.Common.{◌+◌, inl, List, [], ◌∷◌, ◌++◌, length, IsTrue, refl, sym, subst, ap, arith, ◌<◌}
 use Rattle.cl_base.specs.Disk.{FileState}
 use Rattle.cl_base.specs.Images.{IsSound}
-use Rattle.cl_base.specs.Torn.{Torn, run_after, weaker}
+use Rattle.cl_base.specs.Torn.{run_after, weaker}
 use Rattle.cl_base.specs.Through.{IsTornFrom, ThroughLeft}
 use Rattle.cl_base.specs.declared.fault.Trouble.{Trouble}
 use Rattle.cl_base.specs.declared.fault.Trouble.TheVariants.{Failed}

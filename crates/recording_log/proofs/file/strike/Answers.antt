@@ -1,6 +1,5 @@
 -- The one exit of the strike.
-use Rattle.std.specs.Prelude.{if◌then◌else◌, not}
-use Rattle.std.proofs.Common.{◌≡◌, ℕ, ◌+◌, ◌*◌, ◌==◌, List, [], ◌∷◌, length, get_or, IsTrue, refl, sym, subst, arith}
+use Rattle.std.proofs.Common.{List, [], ◌∷◌, refl}
 use Rattle.cl_base.specs.Images.{IsSound}
 use Rattle.cl_base.specs.Torn.{weaker}
 use Rattle.cl_base.specs.Through.{IsTornFrom, ThroughLeft}

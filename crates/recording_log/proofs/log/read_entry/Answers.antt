@@ -1,5 +1,5 @@
 -- An entry that was read.
-use Rattle.std.proofs.Common.{◌≡◌, ◌≤◌, ◌+◌, length, sym, ◌∙◌, arith}
+use Rattle.std.proofs.Common.{sym, ◌∙◌, arith}
 use Rattle.recording_log.proofs.MountLemmas.{gate_read, entry_read}
 use Rattle.recording_log.proofs.log.read_entry.Goals as goal
 

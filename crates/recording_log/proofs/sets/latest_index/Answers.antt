@@ -1,5 +1,5 @@
 -- From the end to the front.
-use Rattle.std.proofs.Common.{◌≡◌, ℕ, length, arith, subst}
+use Rattle.std.proofs.Common.{◌≡◌, arith, subst}
 use Rattle.recording_log.specs.Sets.{IsSoFar}
 use Rattle.recording_log.proofs.SetLemmas.{none_behind, so_far_within, latest_of_all}
 use Rattle.recording_log.proofs.sets.latest_index.Goals as goal

@@ -1,4 +1,4 @@
-use Rattle.std.proofs.Common.{ℕ, ◌≤◌, length}
+use Rattle.std.proofs.Common.{◌≤◌, length}
 use Rattle.recording_log.specs.Sets.{IsSoFar}
 use Rattle.recording_log.proofs.sets.latest_index.Given as goal
 

@@ -1,11 +1,11 @@
 -- The bytes spell the entry.
-use Rattle.std.proofs.Common.{◌≡◌, ◌∙◌, ap, arith, rules, ℕ, List, replicate, to_z, of_z, w32, w64}
+use Rattle.std.proofs.Common.{◌≡◌, ◌∙◌, ap, arith, rules, replicate, to_z, of_z, w32, w64}
 use Rattle.std.specs.Int.RustNames.{FitsSigned}
 use Rattle.std.proofs.lemmas.Int.{to_z-of_z}
 use Rattle.cl_base.specs.Disk.{overwritten}
 use Rattle.wire_prims.specs.Fields.{signed64, signed32, le32}
 use Rattle.recording_log.specs.Entries.{entry_of}
-use Rattle.recording_log.proofs.BlockLemmas.{spelled, block}
+use Rattle.recording_log.proofs.BlockLemmas.{spelled}
 use Rattle.recording_log.proofs.entry.RecEntry.bytes.Goals as goal
 
 pub returns : goal.returns

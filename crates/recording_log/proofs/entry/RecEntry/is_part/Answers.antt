@@ -1,7 +1,6 @@
 -- The last test.
-use Rattle.std.proofs.Common.{◌≡◌, IsTrue, nat_eq, of_z, to_z, w32, w64, ◌∙◌, sym, ap, arith, rules, refl, eq-eqb, eqb-true}
+use Rattle.std.proofs.Common.{◌≡◌, IsTrue, of_z, to_z, w32, ◌∙◌, sym, ap, arith, rules, eq-eqb, eqb-true}
 use Rattle.std.proofs.lemmas.Int.{to_z-of_z}
-use Rattle.recording_log.specs.Sets.{IsPart}
 use Rattle.recording_log.specs.Valid.{is_snapshot}
 use Rattle.recording_log.proofs.entry.RecEntry.is_part.Goals as goal
 

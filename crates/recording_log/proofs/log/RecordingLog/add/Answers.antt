@@ -1,13 +1,15 @@
 -- Each exit of an addition.
-use Rattle.std.proofs.Common.{◌≡◌, ◌+◌, ◌*◌, ◌++◌, [], ◌∷◌, List, length, sym, ◌∙◌, subst, ap, arith, rules, length-append}
+use Rattle.std.proofs.Common.{◌≡◌, ◌++◌, [], ◌∷◌, List, length, sym, ◌∙◌, subst, ap, arith, rules, length-append}
 use Rattle.cl_base.specs.Disk.{FileState}
 use Rattle.recording_log.specs.declared.entry.RecEntry.{RecEntry}
 use Rattle.recording_log.specs.Entries.{Holds}
 use Rattle.recording_log.specs.Valid.{terms_of}
 use Rattle.recording_log.specs.Steps.{IsAddition, added}
+use Rattle.recording_log.specs.Parts.{Tells, TellsWith, part_of}
 use Rattle.recording_log.proofs.EveryLemmas.{every_settled}
 use Rattle.recording_log.proofs.HoldLemmas.{added_holds}
 use Rattle.recording_log.proofs.MountLemmas.{terms_more}
+use Rattle.recording_log.proofs.PartLemmas.{with_last, on_ok, on_err}
 use Rattle.recording_log.proofs.FaultLemmas.{device_is_failed}
 use Rattle.recording_log.proofs.log.RecordingLog.add.Goals as goal
 
@@ -18,7 +20,25 @@ invariant_of-self-in-Ok g c =
     let items : c.put_entry.new.entries.items ≡ old ++ e ∷ [] = c.put_entry.ensures.entries ∙ ap (λ (l : List RecEntry). l ++ e ∷ []) c.make_room.ensures.entries in (
       omega (arith, ap length items, length-append old (e ∷ []), c.in-Some.ensures.place.1),
       c.put_entry.ensures.terms ∙ ap (λ l. l ++ terms_of (e ∷ [])) (c.make_room.ensures.terms ∙ c.self.invariant.1) ∙ sym (ap terms_of items ∙ terms_more old e),
+      subst (Tells c.take_in.new.self) (sym items)
+          (on_ok c.take_in.result (Tells c.take_in.new.self (old ++ e ∷ [])) (sym c.is_err.ensures.value ∙ c.if-is_err.false) (c.take_in.ensures.ok old c.self.invariant.2)),
     )
+
+pub invariant_of-self-then-is_err : goal.invariant_of-self-then-is_err
+invariant_of-self-then-is_err g c =
+    let old = c.self.inside.entries.items in
+    let entries = c.make_room.ensures.entries in (
+      omega (arith, ap length entries, c.self.invariant.0),
+      c.make_room.ensures.terms ∙ c.self.invariant.1 ∙ sym (ap terms_of entries),
+      subst (Tells c.take_in.new.self) (sym entries) (on_err c.take_in.result (Tells c.take_in.new.self old) (sym c.is_err.ensures.value ∙ c.if-is_err.true) (c.take_in.ensures.err old c.self.invariant.2)),
+    )
+
+pub let_go-requires : goal.let_go-requires
+let_go-requires g c =
+    let old = c.self.inside.entries.items in
+    let e = c.args.entry in
+    let tells = on_ok c.take_in.result (Tells c.take_in.new.self (old ++ e ∷ [])) (sym c.is_err.ensures.value ∙ c.if-is_err.false) (c.take_in.ensures.ok old c.self.invariant.2) in
+    subst (TellsWith (part_of e) c.take_in.new.self) (sym (c.deref.ensures.value ∙ c.make_room.ensures.entries)) (with_last c.take_in.new.self old e tells)
 
 pub returns-in-Ok-clause-mounted : goal.returns-in-Ok-clause-mounted
 returns-in-Ok-clause-mounted g c told =

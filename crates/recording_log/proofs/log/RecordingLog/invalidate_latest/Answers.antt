@@ -1,5 +1,5 @@
 -- Each exit of an invalidation.
-use Rattle.std.proofs.Common.{◌≡◌, ◌≢◌, ℕ, ◌+◌, ◌*◌, ◌<◌, [], ◌∷◌, List, length, slice_get, get_or, Some, IsTrue, refl, sym, ◌∙◌, subst, ap, arith, length-set}
+use Rattle.std.proofs.Common.{◌≡◌, ℕ, ◌+◌, ◌*◌, ◌<◌, [], ◌∷◌, List, length, slice_get, get_or, Some, refl, sym, ◌∙◌, subst, ap, arith, length-set}
 use Rattle.std.proofs.lemmas.Option.{slice_get_read, slice_get-get_or}
 use Rattle.cl_base.specs.Disk.{FileState, overwritten}
 use Rattle.recording_log.specs.declared.entry.RecEntry.{RecEntry}
@@ -7,6 +7,8 @@ use Rattle.recording_log.specs.Entries.{Holds}
 use Rattle.recording_log.specs.Sets.{HasNoSet, IsLatest, IsStrike, struck, struck_kind}
 use Rattle.recording_log.proofs.EveryLemmas.{every_settled}
 use Rattle.recording_log.proofs.FaultLemmas.{device_is_failed}
+use Rattle.recording_log.specs.Parts.{Tells, TellsWith, part_of}
+use Rattle.recording_log.proofs.PartLemmas.{with_struck}
 use Rattle.recording_log.proofs.SetLemmas.{zero_entry, latest_once}
 use Rattle.recording_log.proofs.StrikeLemmas.{with_kind, snapshot_kind, no_term, terms_set, once_struck, struck_holds}
 use Rattle.recording_log.proofs.log.RecordingLog.invalidate_latest.Goals as goal
@@ -50,7 +52,21 @@ invariant_of-self g c =
     let v = with_kind struck_kind m in (
       omega (arith, length-set items c.in-Some.i v, c.self.invariant.0),
       c.self.invariant.1 ∙ sym (terms_set items c.in-Some.i m v there (no_term m (omega (arith, one))) (no_term v (omega arith))),
+      subst (Tells c.let_go.new.self) c.deref-in-Ok.ensures.value c.let_go.ensures,
     )
+
+pub let_go-requires : goal.let_go-requires
+let_go-requires g c =
+    let items = c.self.inside.entries.items in
+    let i = c.in-Some.i in
+    let m : RecEntry = c.index_mut.result.now in
+    let read : RecEntry = c.index-entry.result.now in
+    let within : i < length items = omega (arith, c.in-Some.ensures.within, ap length c.deref.ensures.value) in
+    let there : slice_get items i ≡ Some m = slice_get_read items (length items) i m refl within c.index_mut.ensures.value in
+    let once : slice_get items i ≡ Some read = slice_get_read items (length items) i read refl within c.index-entry.ensures in
+    let same : m ≡ read = cc in
+    subst (TellsWith (part_of read) c.self.inside.parts) (sym c.deref-in-Ok.ensures.value)
+    (subst (λ (d : RecEntry). TellsWith (part_of d) c.self.inside.parts (struck i m items)) same (with_struck c.self.inside.parts items i m there c.self.invariant.2))
 
 pub returns-in-Ok-clause-found : goal.returns-in-Ok-clause-found
 returns-in-Ok-clause-found g c =

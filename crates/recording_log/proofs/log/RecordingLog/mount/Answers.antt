@@ -1,9 +1,11 @@
 -- Each exit of the mount.
-use Rattle.std.proofs.Common.{◌≡◌, ◌+◌, ◌*◌, ◌++◌, [], ◌∷◌, List, Some, IsTrue, length, sym, ◌∙◌, subst, ap, arith, length-append}
+use Rattle.std.proofs.Common.{◌≡◌, ◌*◌, ◌++◌, [], ◌∷◌, List, Some, IsTrue, length, sym, ◌∙◌, subst, ap, arith, length-append}
 use Rattle.cl_base.specs.Disk.{FileState}
 use Rattle.recording_log.specs.declared.entry.RecEntry.{RecEntry}
 use Rattle.recording_log.specs.Entries.{Begins, IsNext}
 use Rattle.recording_log.specs.Valid.{terms_of}
+use Rattle.recording_log.specs.Parts.{Tells}
+use Rattle.recording_log.proofs.PartLemmas.{on_ok}
 use Rattle.recording_log.proofs.MountLemmas.{begins_more, terms_more, look_more}
 use Rattle.recording_log.proofs.log.RecordingLog.mount.Goals as goal
 
@@ -43,6 +45,8 @@ entries-preserved g c =
           (begins_more old ((g.D.Disk.state c.args.disk.now).files 1).reads (inv.begins told) c.entries.i inv.count e (subst (λ r. IsNext (64 * c.entries.i) r (Some e)) reads next));
       count = omega (arith, ap length items, length-append old (e ∷ []), inv.count);
       terms = c.put_entry.ensures.terms ∙ ap (λ l. l ++ terms_of (e ∷ [])) (c.make_room.ensures.terms ∙ inv.terms) ∙ sym (ap terms_of items ∙ terms_more old e);
+      parts = subst (Tells c.take_in.new.self) (sym items)
+          (on_ok c.take_in.result (Tells c.take_in.new.self (old ++ e ∷ [])) (sym c.is_err.ensures.value ∙ c.if-is_err.false) (c.take_in.ensures.ok old inv.parts));
       run = λ honest.
           let honest1 = subst IsTrue (sym inv.honest) honest in
           look_more g.D.Disk.state g.D.Disk.moment g.D.Disk.left_since c.args.disk.now c.entries.disk c.read_entry.new.disk (inv.run honest) (inv.same (g.met.D.Disk.honest_tells c.args.disk.now honest)) (c.read_entry.ensures.any_moment honest1);

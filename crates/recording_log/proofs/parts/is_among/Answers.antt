@@ -1,8 +1,8 @@
 -- The first such entry, or none.
-use Rattle.std.proofs.Common.{◌≡◌, ◌≢◌, ◌<◌, ◌≤◌, length, arith, to_z, of_z, w32, IsTrue, true, false, refl, sym, ◌∙◌}
+use Rattle.std.proofs.Common.{◌≡◌, arith, to_z, of_z, w32, true, false, refl, sym, ◌∙◌}
 use Rattle.std.proofs.lemmas.Int.{to_z-of_z}
 use Rattle.recording_log.proofs.SetLemmas.{part_found, none_more, none_at_end}
-use Rattle.recording_log.proofs.sets.has_part.Goals as goal
+use Rattle.recording_log.proofs.parts.is_among.Goals as goal
 
 pub returns-then-is_part : goal.returns-then-is_part
 returns-then-is_part c =
