@@ -1,8 +1,10 @@
-//! What a fuse and a crash leave of a member's first two files, over a disk in memory.
+//! What a fuse or a call that fails, and then a crash, leave of a member's first two files, over a disk in memory.
 #![tactic(auto)]
 
+mod disks;
 mod node_rows;
 mod recording_rows;
 
-pub use node_rows::{fresh_disk, migrated_under, raised_under};
-pub use recording_rows::{add_set, add_snapshot, add_term, blank_disk, invalidate, latest, terms};
+pub use disks::{Answer, disk_with};
+pub use node_rows::{migrated_under, raised_under};
+pub use recording_rows::{add_set, add_snapshot, add_term, invalidate, latest, terms};

@@ -4,5 +4,5 @@ use Rattle.cl_base.specs.Disk.{DiskState}
 use Rattle.node_state.specs.Node.{Tells}
 use Rattle.disk_rows.proofs.node_rows.raised_under.Goals as goal
 
-pub raise-requires-clause-mounted : goal.raise-requires-clause-mounted
-raise-requires-clause-mounted c told = subst (λ (s : DiskState). Tells c.in-Ok.node (s.files 0).reads) (sym (c.fuse.ensures.told told)) (c.in-Ok.ensures.mounted told)
+pub raise-answer-requires-clause-mounted : goal.raise-answer-requires-clause-mounted
+raise-answer-requires-clause-mounted c told = subst (λ (s : DiskState). Tells c.in-Ok.node (s.files 0).reads) (sym (c.fuse.ensures.told told)) (c.in-Ok.ensures.mounted told)
