@@ -11,4 +11,5 @@ pub mod Status
 pub mod Streams
 pub mod Text
 pub mod Top
+pub mod Worked
 pub mod World

@@ -3,6 +3,8 @@ ghost use Rattle.std.specs.Prelude.{◌≡◌, List, take, length, pos, All, All
 ghost use Rattle.scenario.specs.declared.order.Order.{Order};
 ghost use Rattle.cluster_run.specs.Headline.{Headline, IsOwed, IsOther, IsSentByLeader, IsLedBy, no_reign, phases_of};
 ghost use Rattle.cluster_run.specs.World.{world_after};
+ghost use Rattle.cluster_run.specs.Worked.{worked_orders, worked_text};
+ghost use Rattle.cluster_run.specs.Reported.{run_text};
 
 /// Whatever orders come, what the service has consumed is the front of the printed log.
 pub fn consumes_a_front()
@@ -32,4 +34,9 @@ pub fn leads_its_log()
 /// All of this, whatever orders come.
 pub fn headline()
     ensures { (orders : List Order) → Headline orders }
+{}
+
+/// The run that was worked by hand: its orders write its text, byte for byte.
+pub fn worked_run()
+    ensures { run_text worked_orders ≡ worked_text }
 {}

@@ -27,7 +27,7 @@ mod whole;
 pub use answer::Answer;
 pub use laws::{
     consumes_a_front, headline, is_sent_by_the_leader, leads_its_log, sends_once,
-    sends_what_is_owed,
+    sends_what_is_owed, worked_run,
 };
 pub use module::{Module, Session};
 pub use places::measures_spellings;
