@@ -1,10 +1,10 @@
 -- An event is as long as its spelling.
-use Rattle.std.proofs.Common.{◌≡◌, ℕ, ◌+◌, List, [], ◌++◌, length, sym, arith, length-append}
+use Rattle.std.proofs.Common.{◌≡◌, ℕ, ◌+◌, ◌≤◌, List, [], ◌++◌, length, sym, arith, length-append}
 use Rattle.wire_prims.specs.Fields.{le32, length-le32}
 use Rattle.wire_prims.specs.Strict.{message, block_size, counted}
 use Rattle.wire_prims.specs.StrictLaws.{length-message}
 use Rattle.wire_prims.specs.declared.strict.Field.{Field}
-use Rattle.sbe_events.specs.Spelling.{fields_of, spelling_of}
+use Rattle.sbe_events.specs.Spelling.{HasSpelling, fields_of, spelling_of}
 use Rattle.sbe_events.specs.declared.event.Event.{Event}
 use Rattle.sbe_events.specs.declared.event.Event.TheVariants as event
 use Rattle.cluster_run.specs.Module.{event_len}
@@ -26,3 +26,13 @@ length-spelling (event.ServiceMessage term service number stamp payload) = sym (
 length-spelling (event.Timer term corr stamp) = sym (parts_length 20 (fields_of (event.Timer term corr stamp)) [])
 length-spelling (event.Closed term session stamp reason) = sym (parts_length 22 (fields_of (event.Closed term session stamp reason)) [])
 length-spelling (event.Snapshot term position stamp) = sym (parts_length 23 (fields_of (event.Snapshot term position stamp)) [])
+
+-- an event that has a spelling is short enough for the log
+pub spelled_short : (e : Event) → HasSpelling e → event_len e ≤ 32768
+spelled_short (event.Term term position stamp base leader) s = omega arith
+spelled_short (event.Opened term corr session stamp stream channel) s = let short = s.5 in omega arith
+spelled_short (event.Message term session stamp payload) s = let short = s.3 in omega arith
+spelled_short (event.ServiceMessage term service number stamp payload) s = let short = s.4 in omega arith
+spelled_short (event.Timer term corr stamp) s = omega arith
+spelled_short (event.Closed term session stamp reason) s = omega arith
+spelled_short (event.Snapshot term position stamp) s = omega arith

@@ -23,7 +23,7 @@ impl Run {
         ensures outcome { IfOk result (λ o. o ≡ admitted (member_in self.old) event) }
         ensures world { IfOk result (λ o. world_of self.new ≡ with_member (world_of self.old) (taken (member_in self.old) event o)) }
     {
-        let end = end_behind(self.name.place, &event)?;
+        let end = end_behind(self.name.place, &event);
         let waiting = end.saturating_sub(self.commit_place);
         if waiting > WINDOW_LIMIT {
             return Ok(Outcome::BackPressure { bytes: waiting });

@@ -133,7 +133,7 @@ impl Run {
         ensures world { OnOk result (world_of self.new ≡ turn (world_of self.old)) }
     {
         let event = self.new_term();
-        let end = end_behind(self.name.place, &event)?;
+        let end = end_behind(self.name.place, &event);
         if end > LOG_LIMIT {
             self.election.enter_canvass(self.clock);
             return Ok(());

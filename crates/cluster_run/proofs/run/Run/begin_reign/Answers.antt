@@ -12,22 +12,25 @@ returns-then-end-gt-LOG_LIMIT-clause-kept c =
 pub returns-then-end-gt-LOG_LIMIT-clause-world : goal.returns-then-end-gt-LOG_LIMIT-clause-world
 returns-then-end-gt-LOG_LIMIT-clause-world c =
     let r = c.args.self.now in
-    no_room r c.new_term-event.result c.in_ok-end.end c.enter_canvass.new.self c.requires.kept c.requires.state c.if-end-gt-LOG_LIMIT.true c.new_term-event.ensures
-    (ends_behind r c.new_term-event.result c.in_ok-end.end c.requires.kept c.in_ok-end.ensures.0) c.enter_canvass.ensures
+    no_room r c.new_term-event.result c.end_behind-end.result c.enter_canvass.new.self c.requires.kept c.requires.state c.if-end-gt-LOG_LIMIT.true c.new_term-event.ensures
+    (ends_behind r c.new_term-event.result c.end_behind-end.result c.requires.kept c.end_behind-end.ensures) c.enter_canvass.ensures
+
+pub end_behind-end-requires-clause-spelled : goal.end_behind-end-requires-clause-spelled
+end_behind-end-requires-clause-spelled c = subst HasSpelling (sym c.new_term-event.ensures) (new_term_spelled c.args.self.now c.requires.kept c.requires.state c.requires.moment)
 
 pub append-requires-clause-spelled : goal.append-requires-clause-spelled
 append-requires-clause-spelled c = subst HasSpelling (sym c.new_term-event.ensures) (new_term_spelled c.args.self.now c.requires.kept c.requires.state c.requires.moment)
 
 pub append-requires-clause-end : goal.append-requires-clause-end
-append-requires-clause-end c = ends_behind c.args.self.now c.new_term-event.result c.in_ok-end.end c.requires.kept c.in_ok-end.ensures.0
+append-requires-clause-end c = ends_behind c.args.self.now c.new_term-event.result c.end_behind-end.result c.requires.kept c.end_behind-end.ensures
 
 pub returns-clause-kept : goal.returns-clause-kept
 returns-clause-kept c =
     let r = c.args.self.now in
-    kept_reigning r c.append.new.self c.new_term-event.result (r.clock + 100) c.in_ok-end.end c.requires.kept c.in_ok-append.ensures.kept c.requires.state c.in_ok-append.ensures.world
+    kept_reigning r c.append.new.self c.new_term-event.result (r.clock + 100) c.end_behind-end.result c.requires.kept c.in_ok-append.ensures.kept c.requires.state c.in_ok-append.ensures.world
 
 pub returns-clause-world : goal.returns-clause-world
 returns-clause-world c =
     let r = c.args.self.now in
-    reigns r (world_of c.append.new.self) c.new_term-event.result c.in_ok-end.end c.requires.kept c.requires.state c.if-end-gt-LOG_LIMIT.false c.new_term-event.ensures
-    (ends_behind r c.new_term-event.result c.in_ok-end.end c.requires.kept c.in_ok-end.ensures.0) c.in_ok-append.ensures.world
+    reigns r (world_of c.append.new.self) c.new_term-event.result c.end_behind-end.result c.requires.kept c.requires.state c.if-end-gt-LOG_LIMIT.false c.new_term-event.ensures
+    (ends_behind r c.new_term-event.result c.end_behind-end.result c.requires.kept c.end_behind-end.ensures) c.in_ok-append.ensures.world
