@@ -4,7 +4,7 @@ use Rattle.std.specs.Prelude.{All, ◌≤ℤ◌, ◌<ℤ◌, negsuc, ◌^◌, �
 use Rattle.std.specs.Int.{int_max}
 use Rattle.std.specs.List.{list_any}
 use Rattle.std.proofs.lemmas.List.{take-append-le, length-replicate}
-use Rattle.std.proofs.lemmas.List.Elements.{All-push, All-nil, All-replicate}
+use Rattle.std.proofs.lemmas.List.Elements.{All-push, All-nil, All-append, All-replicate}
 use Rattle.std.proofs.lemmas.Bool.{le-leb, lt-leb}
 use Rattle.std.proofs.lemmas.Int.{ints, fold-int_max_bounds}
 use Rattle.entry_log.specs.Log.{end_after}
@@ -21,7 +21,7 @@ use Rattle.sbe_events.specs.Spelling.{HasSpelling, IsNumber}
 use Rattle.cluster_run.specs.Module.{term_of, event_len, place_from, place_of, module_of, module_after, empty}
 use Rattle.cluster_run.specs.LeaderRows.{Member, name_of, new_term, appends, begins_reign, commit_after, entries_from, entries_to, quorum_position, reports_of, heard_count as leader_heard, duty_in}
 use Rattle.cluster_run.specs.World.{World, with_member, committed_world, longer, turn, phase, round, rounds, sent_from}
-use Rattle.cluster_run.specs.Driver.{IsAlone, IsTermed, IsKept, member_in, world_of}
+use Rattle.cluster_run.specs.Driver.{IsAlone, IsTermed, IsKept, IsWritable, member_in, world_of}
 use Rattle.cluster_run.specs.declared.module.Module.{Module}
 use Rattle.cluster_run.specs.declared.run.Run.{Run}
 use Rattle.cluster_run.specs.declared.sent.Sent.{Sent}
@@ -29,6 +29,7 @@ use Rattle.service_api.specs.declared.echo.Echo.{Echo}
 use Rattle.cluster_run.proofs.Parts.{take-add}
 use Rattle.std.proofs.lemmas.List.Sums.{fold-append}
 use Rattle.cluster_run.proofs.HeadlineEntries.{push_fold}
+use Rattle.cluster_run.proofs.Writing.{entries_writable}
 use Rattle.cluster_run.proofs.LogBounds.{places_rise, place_push, next_id_high}
 use Rattle.cluster_run.proofs.Fronts.{longer_same, longer_front}
 
@@ -48,6 +49,7 @@ kept_one r e k spelled room = record {
   tentative = ap (λ m. module_after m e) k.tentative ∙ sym (push_fold module_after empty r.log e);
   clients = k.clients;
   connects = k.connects;
+  records = k.records;
 }
 
 world_one : (r : Run) (e : Event) (n : LogName) (m : Module) → IsKept r → world_of (record r { log = r.log ++ e ∷ []; name = n; tentative = m }) ≡ with_member (world_of r) (appends (member_in r) e)
@@ -147,6 +149,7 @@ kept_reigning r a e next end k l state is =
       tentative = l.tentative;
       clients = l.clients;
       connects = l.connects;
+      records = l.records;
     }
 
 -- the new term event of a member that is to lead
@@ -321,6 +324,7 @@ kept_elected r e k a = record {
   tentative = k.tentative;
   clients = k.clients;
   connects = k.connects;
+  records = k.records;
 }
 
 pub dutied : (r : Run) (e : Election) → IsKept r → e ≡ (duty r.election.state r.election r.name r.clock).election → IsKept (record r { election = e })
@@ -364,6 +368,7 @@ kept_leading r next c place k more within is = record {
   tentative = k.tentative;
   clients = k.clients;
   connects = k.connects;
+  records = k.records;
 }
 
 -- ---- a phase
@@ -393,8 +398,8 @@ phased_now r sent echo m k is =
     ∙ ap (λ (ss : List Sent). record w { inputs = take r.consumed r.log ++ due_in r; sent = ss }) was
     ∙ ap (λ (c : ℕ). record w { inputs = take r.consumed r.log ++ take (r.commit - c) (drop c r.log); sent = r.sent ++ sent_from r.election (module_of (take c r.log)) c (take (r.commit - c) (drop c r.log)) }) (sym n)
 
-kept_phased_now : (r : Run) (sent : List Sent) (echo : Echo) (m : Module) → IsKept r → m ≡ fold module_after r.committed (due_in r) → IsKept (record r { consumed = r.commit; sent = sent; echo = echo; committed = m })
-kept_phased_now r sent echo m k is = record {
+kept_phased_now : (r : Run) (sent : List Sent) (echo : Echo) (m : Module) → IsKept r → sent ≡ r.sent ++ sent_from r.election r.committed r.consumed (due_in r) → m ≡ fold module_after r.committed (due_in r) → IsKept (record r { consumed = r.commit; sent = sent; echo = echo; committed = m })
+kept_phased_now r sent echo m k put is = record {
   election = k.election;
   commit = k.commit;
   consumed = omega arith;
@@ -406,6 +411,7 @@ kept_phased_now r sent echo m k is = record {
   tentative = k.tentative;
   clients = k.clients;
   connects = k.connects;
+  records = subst (All IsWritable) (sym put) (All-append IsWritable r.sent (sent_from r.election r.committed r.consumed (due_in r)) k.records (entries_writable r.election r.committed r.consumed (due_in r)));
 }
 
 -- what the service takes, where the log was read as l
@@ -416,8 +422,12 @@ pub phased : (r : Run) (l : List Event) (sent : List Sent) (echo : Echo) (m : Mo
     → world_of (record r { consumed = r.commit; sent = sent; echo = echo; committed = m }) ≡ phase (world_of r)
 phased r l sent echo m k read is = phased_now r sent echo m k (is ∙ ap (λ (x : List Event). r.sent ++ sent_from r.election r.committed r.consumed (due_of r x)) read)
 
-pub kept_phased : (r : Run) (l : List Event) (sent : List Sent) (echo : Echo) (m : Module) → IsKept r → l ≡ r.log → m ≡ fold module_after r.committed (due_of r l) → IsKept (record r { consumed = r.commit; sent = sent; echo = echo; committed = m })
-kept_phased r l sent echo m k read is = kept_phased_now r sent echo m k (is ∙ ap (λ (x : List Event). fold module_after r.committed (due_of r x)) read)
+pub kept_phased : (r : Run) (l : List Event) (sent : List Sent) (echo : Echo) (m : Module) → IsKept r → l ≡ r.log → sent ≡ r.sent ++ sent_from r.election r.committed r.consumed (due_of r l) → m ≡ fold module_after r.committed (due_of r l)
+    → IsKept (record r { consumed = r.commit; sent = sent; echo = echo; committed = m })
+kept_phased r l sent echo m k read put is =
+    kept_phased_now r sent echo m k
+    (put ∙ ap (λ (x : List Event). r.sent ++ sent_from r.election r.committed r.consumed (due_of r x)) read)
+    (is ∙ ap (λ (x : List Event). fold module_after r.committed (due_of r x)) read)
 
 next_taken : (r : Run) → IsKept r → (r.committed.next_id +ℤ pos (length (due_in r))) ≤ℤ pos (2 ^ 62)
 next_taken r k =
@@ -446,8 +456,8 @@ rounds_none w n k past = ap (λ j. rounds j w) (let none : n - k ≡ 0 = omega a
 -- ---- the beginning
 
 pub fresh_kept : (r : Run) → r.election ≡ begins 0 1 (negsuc 0) None → r.log ≡ [] → r.name ≡ record { term = negsuc 0; place = 0 } → r.commit ≡ 0 → r.commit_place ≡ 0 → r.consumed ≡ 0
-    → r.committed ≡ empty → r.tentative ≡ empty → r.connects ≡ replicate 64 0 → IsKept r
-fresh_kept r election log name commit place consumed committed tentative connects = record {
+    → r.committed ≡ empty → r.tentative ≡ empty → r.connects ≡ replicate 64 0 → r.sent ≡ [] → IsKept r
+fresh_kept r election log name commit place consumed committed tentative connects sent = record {
   election = subst IsAlone (sym election) (record { id = refl; members = refl; candidate = omega (arith, ints); term = tt });
   commit = omega arith;
   consumed = omega arith;
@@ -459,4 +469,5 @@ fresh_kept r election log name commit place consumed committed tentative connect
   tentative = tentative ∙ ap module_of (sym log);
   clients = ap length connects ∙ length-replicate {A = ℕ} 64 0;
   connects = subst (All (λ n. n ≤ length r.told)) (sym connects) (All-replicate (λ n. n ≤ length r.told) 64 0 (omega arith));
+  records = subst (All IsWritable) (sym sent) (All-nil IsWritable);
 }

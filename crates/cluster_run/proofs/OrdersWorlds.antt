@@ -9,7 +9,7 @@ use Rattle.sbe_events.specs.declared.event.Event.TheVariants as event
 use Rattle.scenario.specs.declared.order.Order.{Order}
 use Rattle.scenario.specs.declared.order.Order.TheVariants as order
 use Rattle.cluster_run.specs.Form.{rounds_in}
-use Rattle.cluster_run.specs.Driver.{IsKept, rounds_of, member_in, world_of}
+use Rattle.cluster_run.specs.Driver.{IsKept, IsWritable, rounds_of, member_in, world_of}
 use Rattle.cluster_run.specs.LeaderRows.{Member}
 use Rattle.cluster_run.specs.Module.{module_of}
 use Rattle.cluster_run.specs.World.{World, with_member, taken, connect_outcome, message_outcome, answers, known_by, connects_to, sends, round, rounds, step}
@@ -74,8 +74,8 @@ count_more told x counts client within few =
     All-set (λ n. n ≤ length (told ++ x ∷ [])) counts client (suc (slice_index counts client)) (omega arith) (told_more told x counts few)
 
 -- what is sent, told and counted beside changes nothing that is kept
-pub kept_connected : (r : Run) (sent : List Sent) (told : List OrderLine) (connects : List ℕ) (x : OrderLine) (client : ℕ) → client < 64 → told ≡ r.told ++ x ∷ [] → connects ≡ slice_set r.connects client (suc (slice_index r.connects client)) → IsKept r → IsKept (record r { sent = sent; told = told; connects = connects })
-kept_connected r sent told connects x client named told_is connects_is kept = record {
+pub kept_connected : (r : Run) (sent : List Sent) (told : List OrderLine) (connects : List ℕ) (x : OrderLine) (client : ℕ) → client < 64 → told ≡ r.told ++ x ∷ [] → connects ≡ slice_set r.connects client (suc (slice_index r.connects client)) → All IsWritable sent → IsKept r → IsKept (record r { sent = sent; told = told; connects = connects })
+kept_connected r sent told connects x client named told_is connects_is writable kept = record {
   election = kept.election;
   commit = kept.commit;
   consumed = kept.consumed;
@@ -89,6 +89,7 @@ kept_connected r sent told connects x client named told_is connects_is kept = re
   connects = subst (λ (ls : List OrderLine). All (λ n. n ≤ length ls) connects) (sym told_is)
       (subst (λ (ns : List ℕ). All (λ n. n ≤ length (r.told ++ x ∷ [])) ns) (sym connects_is)
       (count_more r.told x r.connects client (let all = kept.clients in omega (arith, all)) kept.connects));
+  records = writable;
 }
 
 -- the client's count is one more than before the offer

@@ -10,7 +10,9 @@ use Rattle.cluster_run.specs.Form.{rounds_in}
 use Rattle.cluster_run.specs.Module.{place_of, module_of}
 use Rattle.cluster_run.specs.LeaderRows.{Member, name_of}
 use Rattle.cluster_run.specs.World.{World}
+use Rattle.sbe_client.specs.Spelling.{HasEgressSpelling}
 use Rattle.cluster_run.specs.declared.run.Run.{Run}
+use Rattle.cluster_run.specs.declared.sent.Sent.{Sent}
 
 -- the member of a run
 abbrev pub member_in : Run → Member
@@ -42,6 +44,10 @@ pub record IsAlone (m : Election) : Type 0 where
   pub candidate : negsuc 0 ≤ℤ m.candidate
   pub term : IsTermed m.state m.candidate m.term
 
+-- a record that can be written as bytes
+abbrev pub IsWritable : Sent → Type 0
+IsWritable s = HasEgressSpelling s.egress
+
 -- what a run keeps beside its world's values: the log's name, where its commit ends, and the module before and after
 pub record IsKept (r : Run) : Type 0 where
   pub election : IsAlone r.election
@@ -55,6 +61,7 @@ pub record IsKept (r : Run) : Type 0 where
   pub tentative : r.tentative ≡ module_of r.log
   pub clients : length r.connects ≡ 64
   pub connects : All (λ n. n ≤ length r.told) r.connects
+  pub records : All IsWritable r.sent
 
 -- the client that an order names is one of 64
 abbrev pub IsNamed : Order → Type 0

@@ -1,14 +1,14 @@
 // The report of a run, and all that it writes.
-ghost use Rattle.std.specs.Prelude.{◌≡◌, ◌++◌, ◌∷◌, [], ◌<◌, ◌≤◌, ◌+◌, ◌^◌, OnOk, IfOk, length, string_bytes};
+ghost use Rattle.std.specs.Prelude.{◌≡◌, ◌++◌, ◌∷◌, [], ◌<◌, ◌≤◌, ◌+◌, ◌^◌, OnOk, IfOk, All, length, string_bytes};
 ghost use Rattle.std.specs.List.{flat_map};
-ghost use Rattle.sbe_client.specs.Spelling.{egress_spelling_of};
+ghost use Rattle.cluster_run.specs.Driver.{IsWritable};
 ghost use Rattle.cluster_run.specs.Reported.{numbered, record_of, records_on, stream_of, streams_from, leader_text, outcome_text, order_line};
 
 use crate::page::{put, put_count, put_number, put_value};
 use crate::places::term_of;
 use crate::{EntryLine, OrderLine, Outcome, RecordLine, Sent, StreamLines};
 use cl_base::{Bytes, List, NoMemory};
-use sbe_client::{Egress, encode_egress};
+use sbe_client::encode_egress;
 use sbe_events::Event;
 use std::alloc::Global;
 
@@ -118,18 +118,6 @@ pub(crate) fn numbered(
     Ok(lines)
 }
 
-/// The bytes of a record. No member sends a code above 4, so such a one finds no memory.
-fn spelled(alloc: Global, egress: &Egress) -> Result<Bytes, NoMemory>
-    ensures { IfOk result (λ bytes. bytes ≡ egress_spelling_of egress.now) }
-{
-    if let Egress::SessionEvent { code, .. } = egress {
-        if *code > 4 {
-            return Err(NoMemory);
-        }
-    }
-    encode_egress(alloc, egress)
-}
-
 /// A record, where it is on the stream.
 fn put_record(
     alloc: Global,
@@ -137,13 +125,14 @@ fn put_record(
     s: &Sent,
     records: &mut List<RecordLine>,
 ) -> Result<(), NoMemory>
-    requires { stream < 64 }
+    requires stream { stream < 64 }
+    requires written { IsWritable s.now }
     ensures { OnOk result (records.new ≡ records.old ++ records_on stream (s.now ∷ [])) }
 {
     if s.stream as i64 != stream as i64 {
         return Ok(());
     }
-    let bytes = spelled(alloc, &s.egress)?;
+    let bytes = encode_egress(alloc, &s.egress)?;
     records.push(RecordLine {
         origin: s.origin,
         bytes,
@@ -152,7 +141,8 @@ fn put_record(
 
 /// The records of one stream.
 fn records_on(alloc: Global, stream: u64, sent: &[Sent]) -> Result<List<RecordLine>, NoMemory>
-    requires { stream < 64 }
+    requires stream { stream < 64 }
+    requires written { All IsWritable sent.now }
     ensures { IfOk result (λ records. records ≡ records_on stream sent.now) }
 {
     let mut records = List::new(alloc);
@@ -182,6 +172,7 @@ fn put_stream(
 
 /// The streams of the clients that have a record.
 pub(crate) fn streams(alloc: Global, sent: &[Sent]) -> Result<List<StreamLines>, NoMemory>
+    requires { All IsWritable sent.now }
     ensures { IfOk result (λ streams. streams ≡ streams_from 64 0 sent.now) }
 {
     let mut streams = List::new(alloc);

@@ -5,7 +5,7 @@ pub take_entries-requires-clause-numbered : goal.take_entries-requires-clause-nu
 take_entries-requires-clause-numbered c = next_within c.args.self.now c.as_slice.result.now c.requires.kept c.as_slice.ensures
 
 pub returns-clause-kept : goal.returns-clause-kept
-returns-clause-kept c = kept_phased c.args.self.now c.as_slice.result.now c.take_entries.new.sent c.take_entries.new.echo c.take_entries.new.tables c.requires.kept c.as_slice.ensures c.in_ok-take_entries.ensures.tables
+returns-clause-kept c = kept_phased c.args.self.now c.as_slice.result.now c.take_entries.new.sent c.take_entries.new.echo c.take_entries.new.tables c.requires.kept c.as_slice.ensures c.in_ok-take_entries.ensures.sent c.in_ok-take_entries.ensures.tables
 
 pub returns-clause-world : goal.returns-clause-world
 returns-clause-world c = phased c.args.self.now c.as_slice.result.now c.take_entries.new.sent c.take_entries.new.echo c.take_entries.new.tables c.requires.kept c.as_slice.ensures c.in_ok-take_entries.ensures.sent
