@@ -108,6 +108,10 @@ abbrev pub after_call : Option ℕ → Option ℕ
 after_call None = None
 after_call (Some n) = Some (n - 1)
 
+-- every file but f is as it was
+abbrev pub OthersStay : ℕ → (ℕ → FileState) → (ℕ → FileState) → Type 0
+OthersStay f old new = (g : ℕ) → g ≢ f → new g ≡ old g
+
 -- file f becomes so, and the others stay
 pub record ChangesFile (f : ℕ) (old new : ℕ → FileState) (next : FileState) : Type 0 where
   pub changed : new f ≡ next

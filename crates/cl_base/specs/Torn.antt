@@ -3,9 +3,9 @@ use Rattle.std.specs.Prelude.{◌≡◌, ◌≢◌, ◌⊎◌, ℕ, ◌+◌, ◌
 use Rattle.std.specs.List.{range_with_len}
 use Rattle.std.proofs.Common.{inl, inr, ⊎_elim, sym, ◌∙◌, ap, subst, get_or, arith}
 use Rattle.std.proofs.lemmas.Bool.{cases_Bool, cond-true, cond-false, and_parts, and_left, and_right, and_from, or_from, or_parts, ltb-true, lt-ltb, le-ltb, lt-leb, not-true, not_from_false}
-use Rattle.std.proofs.lemmas.List.{ext_get_or}
+use Rattle.std.proofs.lemmas.List.{ext_get_or, get_or-take}
 use Rattle.std.proofs.lemmas.List.FromFn.{length-map-range_with_len, get_or-map-range_with_len}
-use Rattle.cl_base.specs.Disk.{FileState, DiskState, covers, IsImage, written_file, settled_file, synced_file, IsTornWrite, ChangeGives, Elapses, LeavesOnly}
+use Rattle.cl_base.specs.Disk.{FileState, DiskState, covers, IsImage, written_file, cut_file, settled_file, synced_file, IsTorn, IsTornWrite, IsTornCut, ChangeGives, Elapses, LeavesOnly}
 use Rattle.cl_base.specs.Images.{IsSound, overwritten_other}
 use Rattle.cl_base.specs.declared.fault.Trouble.{Trouble}
 use Rattle.cl_base.specs.declared.fault.Trouble.TheVariants.{Failed, NoMemory}
@@ -34,9 +34,21 @@ pub record FromImage (at n : ℕ) (old : FileState) (c : List ℕ) : Type 0 wher
   pub image : IsImage old before
   pub torn : Torn at n before c
 
-module _ (at n : ℕ) (old new : FileState) (is_torn : IsTornWrite at n old new) (ok : IsSound old) (c : List ℕ) (image : IsImage new c) where
+-- after a cut to n bytes that a crash cuts short: no longer, at least the first n bytes, and these are the same
+pub record CutShort (n : ℕ) (old new : List ℕ) : Type 0 where
+  pub no_longer : length new ≤ length old
+  pub no_shorter : min n (length old) ≤ length new
+  pub same : (i : ℕ) → i < length new → i < n → get_or new i 0 ≡ get_or old i 0
+
+-- where a cut is torn, each image is an image from before it, cut short
+pub record FromCut (n : ℕ) (old : FileState) (c : List ℕ) : Type 0 where
+  pub before : List ℕ
+  pub image : IsImage old before
+  pub cut : CutShort n before c
+
+module _ (least at end : ℕ) (old new : FileState) (is_torn : IsTorn least at end old new) (ok : IsSound old) (c : List ℕ) (image : IsImage new c) where
   abbrev inside : ℕ → Bool
-  inside i = nat_le at i && nat_lt i (at + n)
+  inside i = nat_le at i && nat_lt i end
 
   abbrev takes : ℕ → Bool
   takes i = nat_lt i (length c) && not (inside i)
@@ -56,15 +68,15 @@ module _ (at n : ℕ) (old new : FileState) (is_torn : IsTornWrite at n old new)
   get_or-file : (i : ℕ) → i < length file → get_or file i 0 ≡ value i
   get_or-file i within = get_or-map-range_with_len value 0 size i i 0 (omega (arith, length-file)) (omega arith)
 
-  out : (i : ℕ) → i < at ⊎ at + n ≤ i → inside i ≡ false
+  out : (i : ℕ) → i < at ⊎ end ≤ i → inside i ≡ false
   out i (inl below) = and_left _ _ (lt-leb at i below)
-  out i (inr above) = and_right _ _ (le-ltb i (at + n) above)
+  out i (inr above) = and_right _ _ (le-ltb i end above)
 
   synced_there : (i : ℕ) → i < length old.synced → covers old.ranges i ≡ false → takes i ≡ true → get_or c i 0 ≡ get_or old.synced i 0
   synced_there i in_synced free take_it =
       let parts = and_parts _ _ take_it in
       let in_c : i < length c = ltb-true i (length c) parts.0 in
-      let free_new : covers new.ranges i ≡ false = ap (λ rs. covers rs i) is_torn.ranges ∙ covers-push_from old.ranges at (at + n) i free (not-true _ parts.1) in
+      let free_new : covers new.ranges i ≡ false = ap (λ rs. covers rs i) is_torn.ranges ∙ covers-push_from old.ranges at end i free (not-true _ parts.1) in
       image.outside i (omega (arith, ap length is_torn.synced)) in_c free_new ∙ ap (λ l. get_or l i 0) is_torn.synced
 
   value_synced : (i : ℕ) → i < length old.synced → covers old.ranges i ≡ false → value i ≡ get_or old.synced i 0
@@ -73,25 +85,48 @@ module _ (at n : ℕ) (old new : FileState) (is_torn : IsTornWrite at n old new)
     | inr is_off ↦ cond-false (takes i) (get_or c i 0) (get_or old.synced i 0) is_off
   ]
 
-  value_same : (i : ℕ) → i < length c → i < at ⊎ at + n ≤ i → value i ≡ get_or c i 0
+  value_same : (i : ℕ) → i < length c → i < at ⊎ end ≤ i → value i ≡ get_or c i 0
   value_same i in_c outside = cond-true (takes i) (get_or c i 0) (get_or old.synced i 0) (and_from _ _ (lt-ltb i (length c) in_c) (not_from_false _ (out i outside)))
 
-  pub torn_image : FromImage at n old c
-  torn_image = record {
-    before = file;
-    image = record {
-      no_shorter = omega (arith, length-file);
-      no_longer = omega (arith, length-file, ok.synced.no_shorter, ok.synced.no_longer);
-      outside = λ i in_synced within free. get_or-file i within ∙ value_synced i in_synced free;
-    };
-    torn = record {
-      no_shorter = omega (arith, length-file, is_torn.no_shorter, image.no_shorter);
-      no_longer = omega (arith, length-file, is_torn.no_longer, image.no_longer, ok.synced.no_shorter, ok.synced.no_longer);
-      same = λ i within outside.
-          let in_c : i < length c = omega (arith, length-file, is_torn.no_shorter, image.no_shorter) in
-          sym (get_or-file i within ∙ value_same i in_c outside);
-    };
+  was_image : IsImage old file
+  was_image = record {
+    no_shorter = omega (arith, length-file);
+    no_longer = omega (arith, length-file, ok.synced.no_shorter, ok.synced.no_longer);
+    outside = λ i in_synced within free. get_or-file i within ∙ value_synced i in_synced free;
   }
+
+  was_same : (i : ℕ) → i < length c → i < length file → i < at ⊎ end ≤ i → get_or c i 0 ≡ get_or file i 0
+  was_same i in_c within outside = sym (get_or-file i within ∙ value_same i in_c outside)
+
+pub torn_image : (at n : ℕ) (old new : FileState) → IsTornWrite at n old new → IsSound old → (c : List ℕ) → IsImage new c → FromImage at n old c
+torn_image at n old new is_torn ok c image =
+    let len = length-file old.least at (at + n) old new is_torn ok c image in
+    record {
+      before = file old.least at (at + n) old new is_torn ok c image;
+      image = was_image old.least at (at + n) old new is_torn ok c image;
+      torn = record {
+        no_shorter = omega (arith, len, is_torn.no_shorter, image.no_shorter);
+        no_longer = omega (arith, len, is_torn.no_longer, image.no_longer, ok.synced.no_shorter, ok.synced.no_longer);
+        same = λ i within outside. was_same old.least at (at + n) old new is_torn ok c image i (omega (arith, len, is_torn.no_shorter, image.no_shorter)) within outside;
+      };
+    }
+
+pub cut_image : (n : ℕ) (old new : FileState) → IsTornCut n old new → IsSound old → (c : List ℕ) → IsImage new c → FromCut n old c
+cut_image n old new is_torn ok c image =
+    let least = min old.least n in
+    let end = length old.reads in
+    let len = length-file least n end old new is_torn ok c image in
+    let most = ok.reads.no_longer in
+    let no_longer = is_torn.no_longer in
+    record {
+      before = file least n end old new is_torn ok c image;
+      image = was_image least n end old new is_torn ok c image;
+      cut = record {
+        no_longer = omega (arith, len, most, no_longer, image.no_longer);
+        no_shorter = omega (arith, len, is_torn.no_shorter, image.no_shorter);
+        same = λ i in_c below. was_same least n end old new is_torn ok c image i in_c (omega (arith, len, most, no_longer, image.no_longer)) (inl below);
+      };
+    }
 
 -- a write that was done is one that was torn
 pub written_is_torn : (at : ℕ) (bytes : List ℕ) (s : FileState) → at ≤ length s.reads → IsTornWrite at (length bytes) s (written_file at bytes s)
@@ -117,6 +152,31 @@ write_may f at bytes old new (Ok v) le gives = record {
 write_may f at bytes old new (Err Failed) le (inl refused) = record { this = inl (refused.files f); others = λ g ne. refused.files g }
 write_may f at bytes old new (Err Failed) le (inr breaks) = record { this = inr breaks.torn; others = breaks.others }
 write_may f at bytes old new (Err NoMemory) le same = record { this = inl (ap (λ (d : DiskState). d.files f) same); others = λ g ne. ap (λ (d : DiskState). d.files g) same }
+
+-- a cut that was done is one that was torn
+pub cut_is_torn : (n : ℕ) (s : FileState) → n ≤ length s.reads → IsTornCut n s (cut_file n s)
+cut_is_torn n s le = record {
+  synced = refl;
+  ranges = refl;
+  no_shorter = omega arith;
+  no_longer = omega arith;
+  same = λ i within outside. ⊎_elim (λ below. get_or-take n s.reads i 0 below) (λ above. absurd (omega arith)) outside;
+}
+
+-- what a cut leaves of the files, whatever it answers
+pub record MayCut (f n : ℕ) (old new : ℕ → FileState) : Type 0 where
+  pub this : (new f ≡ old f) ⊎ IsTornCut n (old f) (new f)
+  pub others : (g : ℕ) → g ≢ f → new g ≡ old g
+
+pub cut_may : {T : Type 0} (f n : ℕ) (old new : DiskState) (result : Result T Trouble) → n ≤ length (old.files f).reads
+    → ChangeGives f (cut_file n) (IsTornCut n) old new result → MayCut f n old.files new.files
+cut_may f n old new (Ok v) le gives = record {
+  this = inr (subst (λ s. IsTornCut n (old.files f) s) (sym gives.files.changed) (cut_is_torn n (old.files f) le));
+  others = gives.files.others;
+}
+cut_may f n old new (Err Failed) le (inl refused) = record { this = inl (refused.files f); others = λ g ne. refused.files g }
+cut_may f n old new (Err Failed) le (inr breaks) = record { this = inr breaks.torn; others = breaks.others }
+cut_may f n old new (Err NoMemory) le same = record { this = inl (ap (λ (d : DiskState). d.files f) same); others = λ g ne. ap (λ (d : DiskState). d.files g) same }
 
 -- what a sync leaves of the files, whatever it answers
 pub record MaySync (f : ℕ) (old new : ℕ → FileState) : Type 0 where

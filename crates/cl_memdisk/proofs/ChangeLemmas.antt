@@ -1,9 +1,8 @@
 -- Changes taken back.
-use Rattle.std.proofs.Common.{◌≡◌, ℕ, ◌-◌, ◌≤◌, List, [], ◌∷◌, ◌++◌, length, take, drop, map, refl, sym, ◌∙◌, ap, subst, arith, length-append}
-use Rattle.std.proofs.lemmas.List.{take_at, drop_at, map-append}
+use Rattle.std.proofs.Common.{◌≡◌, ℕ, ◌≤◌, List, [], ◌∷◌, ◌++◌, length, map, refl, sym, ◌∙◌, ap, subst, arith}
+use Rattle.std.proofs.lemmas.List.{map-append}
 use Rattle.cl_base.specs.Images.{IsSound}
 use Rattle.cl_memdisk.specs.Changes.{taken_back, before_all, range_of, shown, InPlace, AllInPlace, OneMore}
-use Rattle.cl_memdisk.specs.Past.{without_last}
 use Rattle.cl_memdisk.specs.declared.change.Change.{Change}
 
 pub before_all-push : (changes : List Change) (c : Change) (bytes : List ℕ) → before_all (changes ++ c ∷ []) bytes ≡ before_all changes (taken_back c bytes)
@@ -36,15 +35,6 @@ module _ (room at end : ℕ) (old_bytes new_bytes : List ℕ) (old_changes new_c
 
   pub range_more : map range_of new_changes ≡ map range_of old_changes ++ (at, end) ∷ []
   range_more = ap (λ l. map range_of l) is_more.pushed ∙ map-append range_of old_changes (is_more.last ∷ []) ∙ (λ i. map range_of old_changes ++ (is_more.from i, is_more.end_is i) ∷ [])
-
-  pub taken_off : (least most now_least now_most : ℕ)
-      → without_last least most (record { bytes = new_bytes; changes = new_changes; least = now_least; most = now_most }) ≡ record { bytes = old_bytes; changes = old_changes; least = least; most = most }
-  taken_off least most now_least now_most =
-      let len : length new_changes - 1 ≡ length old_changes = omega (arith, ap length is_more.pushed, length-append old_changes (is_more.last ∷ [])) in
-      let last_one : drop (length new_changes - 1) new_changes ≡ is_more.last ∷ [] = ap (λ l. drop (length new_changes - 1) l) is_more.pushed ∙ drop_at old_changes (is_more.last ∷ []) (length new_changes - 1) (sym len) in
-      let others : take (length new_changes - 1) new_changes ≡ old_changes = ap (λ l. take (length new_changes - 1) l) is_more.pushed ∙ take_at old_changes (is_more.last ∷ []) (length new_changes - 1) (sym len) in
-      let bytes : before_all (drop (length new_changes - 1) new_changes) new_bytes ≡ old_bytes = ap (λ l. before_all l new_bytes) last_one ∙ is_more.back in
-      λ i. record { bytes = bytes i; changes = others i; least = least; most = most }
 
   -- what a file shows then
   pub shown_more : (least most : ℕ) → shown (record { bytes = new_bytes; changes = new_changes; least = least; most = most })

@@ -1,61 +1,42 @@
-// Changes of the files, each of them recorded.
-ghost use Rattle.std.specs.Prelude.{◌≡◌, ◌≤◌, ◌<◌, ◌+◌, ℕ, length, OnOk, OnErr, vec_len, vec_capacity};
-ghost use Rattle.cl_base.specs.Disk.{ChangesFile, Elapses, IsImageOf, written_file, cut_file, synced_file, settled_file, left_by};
+// Changes of the files.
+ghost use Rattle.std.specs.Prelude.{◌≡◌, ◌≤◌, ◌<◌, ℕ, length, OnOk, OnErr};
+ghost use Rattle.cl_base.specs.Disk.{ChangesFile, written_file, cut_file, synced_file, settled_file, left_by};
 ghost use Rattle.cl_memdisk.specs.Changes.{torn_file};
 ghost use Rattle.cl_memdisk.specs.Files.{data_at, file_at};
-ghost use Rattle.cl_memdisk.specs.Past.{LeftSince};
 
 use crate::file::FileMem;
-use crate::past::Past;
 use cl_base::{Choice, NoMemory};
 use std::alloc::Global;
 
-/// Makes room for a file, and for a call more.
-fn room(
-    alloc: Global,
-    files: &mut Vec<FileMem>,
-    calls: &mut Vec<Past>,
-    file: u32,
-) -> Result<(), NoMemory>
+/// Makes room for a file.
+fn room(alloc: Global, files: &mut Vec<FileMem>, file: u32) -> Result<(), NoMemory>
     ensures same { (f : ℕ) → data_at files.new.items f ≡ data_at files.old.items f }
-    ensures calls { calls.new.items ≡ calls.old.items }
     ensures there { OnOk result (file < length files.new.items) }
-    ensures space { OnOk result (vec_len calls.new + 1 ≤ vec_capacity calls.new) }
 {
     'grow: while files.len() <= file as usize {
         if files.push(FileMem::new(alloc)).is_err() {
             return Err(NoMemory);
         }
     }
-    match calls.reserve(1) {
-        Ok(()) => Ok(()),
-        Err(_) => Err(NoMemory),
-    }
+    Ok(())
 }
 
 /// Writes to a file.
 pub fn write_file(
     alloc: Global,
     files: &mut Vec<FileMem>,
-    calls: &mut Vec<Past>,
     file: u32,
     at: usize,
     bytes: &[u8],
 ) -> Result<(), NoMemory>
     requires { at ≤ length (file_at files.old.items file).reads }
     ensures ok { OnOk result (ChangesFile file (file_at files.old.items) (file_at files.new.items) (written_file at bytes.now (file_at files.old.items file))) }
-    ensures time { OnOk result (Elapses (length calls.old.items) (length calls.new.items) (LeftSince calls.old.items (data_at files.old.items)) (LeftSince calls.new.items (data_at files.new.items)) (IsImageOf (file_at files.new.items))) }
     ensures err { OnErr result ((f : ℕ) → data_at files.new.items f ≡ data_at files.old.items f) }
-    ensures err_calls { OnErr result (calls.new.items ≡ calls.old.items) }
 {
-    room(alloc, files, calls, file)?;
+    room(alloc, files, file)?;
     let f = &mut files[file as usize];
-    let Ok(was) = f.write(at, bytes) else {
+    let Ok(()) = f.write(at, bytes) else {
         return Err(NoMemory);
-    };
-    let (least, most) = (was.least, was.most);
-    let Ok(()) = calls.push(Past::Changed { file, least, most }) else {
-        unreachable!();
     };
     Ok(())
 }
@@ -64,7 +45,6 @@ pub fn write_file(
 pub fn tear_file(
     alloc: Global,
     files: &mut Vec<FileMem>,
-    calls: &mut Vec<Past>,
     file: u32,
     from: usize,
     end: usize,
@@ -72,18 +52,12 @@ pub fn tear_file(
     requires starts { from ≤ length (file_at files.old.items file).reads }
     requires ends { from ≤ end }
     ensures ok { OnOk result (ChangesFile file (file_at files.old.items) (file_at files.new.items) (torn_file from end (file_at files.old.items file))) }
-    ensures time { OnOk result (Elapses (length calls.old.items) (length calls.new.items) (LeftSince calls.old.items (data_at files.old.items)) (LeftSince calls.new.items (data_at files.new.items)) (IsImageOf (file_at files.new.items))) }
     ensures err { OnErr result ((f : ℕ) → data_at files.new.items f ≡ data_at files.old.items f) }
-    ensures err_calls { OnErr result (calls.new.items ≡ calls.old.items) }
 {
-    room(alloc, files, calls, file)?;
+    room(alloc, files, file)?;
     let f = &mut files[file as usize];
-    let Ok(was) = f.tear(from, end) else {
+    let Ok(()) = f.tear(from, end) else {
         return Err(NoMemory);
-    };
-    let (least, most) = (was.least, was.most);
-    let Ok(()) = calls.push(Past::Changed { file, least, most }) else {
-        unreachable!();
     };
     Ok(())
 }
@@ -92,52 +66,29 @@ pub fn tear_file(
 pub fn cut_one(
     alloc: Global,
     files: &mut Vec<FileMem>,
-    calls: &mut Vec<Past>,
     file: u32,
     len: usize,
 ) -> Result<(), NoMemory>
     requires { len ≤ length (file_at files.old.items file).reads }
     ensures ok { OnOk result (ChangesFile file (file_at files.old.items) (file_at files.new.items) (cut_file len (file_at files.old.items file))) }
-    ensures time { OnOk result (Elapses (length calls.old.items) (length calls.new.items) (LeftSince calls.old.items (data_at files.old.items)) (LeftSince calls.new.items (data_at files.new.items)) (IsImageOf (file_at files.new.items))) }
     ensures err { OnErr result ((f : ℕ) → data_at files.new.items f ≡ data_at files.old.items f) }
-    ensures err_calls { OnErr result (calls.new.items ≡ calls.old.items) }
 {
-    room(alloc, files, calls, file)?;
+    room(alloc, files, file)?;
     let f = &mut files[file as usize];
-    let Ok(was) = f.cut(len) else {
+    let Ok(()) = f.cut(len) else {
         return Err(NoMemory);
-    };
-    let (least, most) = (was.least, was.most);
-    let Ok(()) = calls.push(Past::Changed { file, least, most }) else {
-        unreachable!();
     };
     Ok(())
 }
 
 /// Has a file on the disk.
-pub fn sync_file(
-    alloc: Global,
-    files: &mut Vec<FileMem>,
-    calls: &mut Vec<Past>,
-    file: u32,
-) -> Result<(), NoMemory>
+pub fn sync_file(alloc: Global, files: &mut Vec<FileMem>, file: u32) -> Result<(), NoMemory>
     ensures ok { OnOk result (ChangesFile file (file_at files.old.items) (file_at files.new.items) (synced_file (file_at files.old.items file))) }
-    ensures time { OnOk result (Elapses (length calls.old.items) (length calls.new.items) (LeftSince calls.old.items (data_at files.old.items)) (LeftSince calls.new.items (data_at files.new.items)) (IsImageOf (file_at files.new.items))) }
     ensures err { OnErr result ((f : ℕ) → data_at files.new.items f ≡ data_at files.old.items f) }
-    ensures err_calls { OnErr result (calls.new.items ≡ calls.old.items) }
 {
-    room(alloc, files, calls, file)?;
+    room(alloc, files, file)?;
     let f = &mut files[file as usize];
-    let (changes, was) = f.sync();
-    let (least, most) = (was.least, was.most);
-    let Ok(()) = calls.push(Past::Synced {
-        file,
-        changes,
-        least,
-        most,
-    }) else {
-        unreachable!();
-    };
+    f.sync();
     Ok(())
 }
 

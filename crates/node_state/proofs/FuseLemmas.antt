@@ -1,15 +1,14 @@
 -- What a fuse leaves of a selection.
 use Rattle.std.specs.Prelude.{◌&&◌, ◌||◌, nat_le, if◌then◌else◌}
-use Rattle.std.proofs.Common.{◌≡◌, ◌≢◌, inl, inr, ⊎_elim, ℕ, ◌-◌, ◌%◌, ◌<◌, ◌==◌, false, List, [], ◌∷◌, length, get_or, Result, Ok, Err, refl, sym, ◌∙◌, ap, subst, arith}
+use Rattle.std.proofs.Common.{◌≡◌, ◌≢◌, inl, inr, ⊎_elim, ℕ, ◌%◌, ◌<◌, ◌==◌, false, List, [], ◌∷◌, length, get_or, Result, Err, refl, sym, ◌∙◌, ap, subst, arith}
 use Rattle.std.proofs.lemmas.Bool.{cases_Bool, cond-true, cond-false, eqb-true, eqb-false, lt-leb, le-ltb, or_from, and_left, and_right}
-use Rattle.cl_base.specs.Counts.{Rose}
 use Rattle.cl_base.specs.Disk.{FileState, DiskState, covers, painted, left_by, settled_file, written_file, synced_file, overwritten, IsTornWrite, Passes, ChangeGives}
 use Rattle.cl_base.specs.Images.{left_by-settled, length-painted, get_or-painted, length-overwritten, overwritten_other}
-use Rattle.cl_base.specs.Fuse.{FuseEnds, passes_one, passes_more, refused_at}
+use Rattle.cl_base.specs.Fuse.{FuseEnds, LetNone, Early, Later, passes_one, ends_one, ends_weaker, fuse_first, fuse_then}
 use Rattle.cl_base.specs.declared.disk.Choice.{Choice}
 use Rattle.cl_base.specs.declared.disk.Choice.TheVariants.{Drop, Keep, Fill}
 use Rattle.cl_base.specs.declared.fault.Trouble.{Trouble}
-use Rattle.cl_base.specs.declared.fault.Trouble.TheVariants.{Failed, NoMemory}
+use Rattle.cl_base.specs.declared.fault.Trouble.TheVariants.{Failed}
 use Rattle.node_state.specs.Node.{Node, Tells, names_slot, slot_of}
 use Rattle.node_state.specs.Steps.{IsReady}
 use Rattle.node_state.proofs.FieldLemmas.{apart, get_or-written_one}
@@ -72,20 +71,16 @@ module _ (before after : Node) (bytes : List ℕ) (ready : IsReady before after 
 
   module _ (T : Type 0) (s0 s1 : DiskState) (is : s0.files 0 ≡ settled_file bytes) where
     pub first_refused : (trouble : Trouble) → ChangeGives {T = T} 0 (written_file 16 (slot ∷ [])) (IsTornWrite 16 1) s0 s1 (Err trouble) → FuseEnds {T = T} 2 Failed Left s0 s1 (Err trouble)
-    first_refused Failed gives k lets alive = λ failed stays.
-        let at_end = refused_at T 0 k (written_file 16 (slot ∷ [])) (IsTornWrite 16 1) s0 s1 gives lets alive stays in
-        let still : s1.files 0 ≡ settled_file bytes = at_end.1.files 0 ∙ is in
-        (omega (arith, at_end.0), subst (λ n. Left s1 n) (sym at_end.0) (none_passed s1.files still))
-    first_refused NoMemory gives k lets alive = λ failed stays. absurd (cc)
+    first_refused trouble gives =
+        ends_weaker T Trouble Failed 2 (Early 1 (LetNone s0.files)) Left s0 s1 (Err trouble)
+        (λ k few left. subst (λ n. Left s1 n) (sym left.1.none) (none_passed s1.files (left.1.files 0 ∙ is)))
+        (fuse_first T T Trouble Failed 1 1 (LetNone s0.files) s0 s1 trouble (ends_one T 0 (written_file 16 (slot ∷ [])) (IsTornWrite 16 1) s0 s1 (Err trouble) gives))
 
     pub second : (s2 : DiskState) (result : Result T Trouble) → Passes 0 (written_file 16 (slot ∷ []) (s0.files 0)) s0 s1 → ChangeGives {T = T} 0 synced_file (λ was now. now ≡ was) s1 s2 result → FuseEnds {T = T} 2 Failed Left s0 s2 result
-    second s2 (Ok v) passes gives k lets alive =
-        let one = passes_one k passes lets in
-        passes_more 1 1 k s0 s1 s2 one (passes_one (k - 1) gives one.lets)
-    second s2 (Err Failed) passes gives k lets alive = λ failed stays.
-        let one = passes_one k passes lets in
-        let at_end = refused_at T 0 (k - 1) synced_file (λ was now. now ≡ was) s1 s2 gives one.lets one.burnt (λ rose. stays (subst (λ n. Rose n s2.own_faults) one.own rose)) in
-        let is_one : k ≡ 1 = omega (arith, at_end.0, one.enough) in
-        let now : s2.files 0 ≡ written_file 16 (slot ∷ []) (settled_file bytes) = at_end.1.files 0 ∙ passes.files.changed ∙ ap (written_file 16 (slot ∷ [])) is in
-        (omega (arith, is_one), subst (λ n. Left s2 n) (sym is_one) (λ choice. subst (λ s. Tells (if names_slot slot choice then after else before) (left_by choice s)) (sym now) (left_selected choice)))
-    second s2 (Err NoMemory) passes gives k lets alive = λ failed stays. absurd (cc)
+    second s2 result passes gives =
+        ends_weaker T Trouble Failed 2 (Later 1 (LetNone s1.files)) Left s0 s2 result
+        (λ k few left.
+        let is_one : k ≡ 1 = omega (arith, left.0, left.1.none) in
+        let now : s2.files 0 ≡ written_file 16 (slot ∷ []) (settled_file bytes) = left.1.files 0 ∙ passes.files.changed ∙ ap (written_file 16 (slot ∷ [])) is in
+        subst (λ n. Left s2 n) (sym is_one) (λ choice. subst (λ s. Tells (if names_slot slot choice then after else before) (left_by choice s)) (sym now) (left_selected choice)))
+        (fuse_then T Trouble Failed 1 1 (LetNone s1.files) s0 s1 s2 result (passes_one passes) (ends_one T 0 synced_file (λ was now. now ≡ was) s1 s2 result gives))

@@ -1,27 +1,21 @@
 -- A raise, of its two parts.
 use Rattle.std.specs.Prelude.{◌&&◌, if◌then◌else◌, OnOk}
 use Rattle.std.specs.Int.{w64, cast_signed}
-use Rattle.std.proofs.Common.{◌≡◌, ◌≢◌, inl, inr, ℕ, ◌+◌, ◌-◌, ◌*◌, ◌<◌, ◌≤◌, ◌^◌, ◌==◌, ◌%◌, Some, false, List, [], ◌∷◌, length, Result, Ok, Err, refl, sym, ◌∙◌, ap, subst, arith}
+use Rattle.std.proofs.Common.{◌≡◌, ◌≢◌, inl, inr, ℕ, ◌+◌, ◌-◌, ◌*◌, ◌<◌, ◌≤◌, ◌^◌, ◌==◌, ◌%◌, List, [], ◌∷◌, length, Result, Ok, Err, refl, sym, ◌∙◌, ap, subst, arith}
 use Rattle.std.proofs.lemmas.Bool.{cases_eq, eq-eqb, ne_eqb}
 use Rattle.cl_base.specs.Disk.{FileState, DiskState, ChangesFile, IsImage, settled_file, overwritten, left_by}
 use Rattle.cl_base.specs.Images.{length-overwritten, overwritten_other}
 use Rattle.cl_base.specs.Torn.{settled_image}
-use Rattle.cl_base.specs.Fuse.{Passed, FuseEnds, fuse_then}
+use Rattle.cl_base.specs.Fuse.{Passed, FuseEnds, Early, Later, ends_weaker, fuse_first, fuse_then}
 use Rattle.cl_base.specs.declared.disk.Choice.{Choice}
 use Rattle.cl_base.specs.declared.fault.Trouble.{Trouble}
-use Rattle.cl_base.specs.declared.fault.Trouble.TheVariants.{Failed, NoMemory}
-use Rattle.cl_base.specs.declared.fault.MemberFault.TheVariants.{Device}
-use Rattle.cl_base.specs.Faults.{fault_of}
+use Rattle.cl_base.specs.declared.fault.Trouble.TheVariants.{Failed}
 use Rattle.node_state.specs.Fields.{u64_at, i64_at, u32_at, u64_bytes, u32_bytes}
 use Rattle.node_state.specs.Node.{Node, Tells, member_of, names_slot}
 use Rattle.node_state.specs.Steps.{AllTell, IsReady, IsRaise, staged, selected}
 use Rattle.node_state.proofs.FieldLemmas.{apart, u64_at-same, u64_at-written, u32_at-written, get_or-written_one}
 use Rattle.cl_base.specs.Torn.{Torn}
 use Rattle.node_state.proofs.NodeLemmas.{selects_after, torn_tells, spare_term, spare_member}
-
-pub device_is_failed : (t : Trouble) → fault_of t ≡ Device → t ≡ Failed
-device_is_failed Failed is = refl
-device_is_failed NoMemory is = absurd (cc)
 
 pub on_ok : (T : Type 0) (result : Result T Trouble) (P Q : Type 0) → (P → Q) → OnOk result P → OnOk result Q
 on_ok T (Ok v) P Q so on = so on
@@ -68,12 +62,11 @@ module _ (slot bits member : ℕ) (before after : Node) (is : IsRaise slot bits 
   abbrev Left : (n : ℕ) → DiskState → ℕ → Type 0
   Left n left k = (choice : Choice) → Tells (if (k == n) && names_slot slot choice then after else before) (left_by choice (left.files 0))
 
-  pub fuse_of_two : (T : Type 0) (s0 s1 s2 : DiskState) (result : Result T Trouble) → ((k : ℕ) → s0.lets ≡ Some k → s0.burnt ≡ false → Passed 3 k s0 s1) → FuseEnds {T = T} 2 Failed (Left 1) s1 s2 result → FuseEnds {T = T} 5 Failed (Left 4) s0 s2 result
-  fuse_of_two T s0 s1 s2 (Ok v) first second k lets alive = fuse_then T Trouble Failed 3 2 k (Left 1) s0 s1 s2 (Ok v) (first k lets alive) second
-  fuse_of_two T s0 s1 s2 (Err e) first second k lets alive = λ failed stays.
-      let one = first k lets alive in
-      let left = fuse_then T Trouble Failed 3 2 k (Left 1) s0 s1 s2 (Err e) one second failed stays in
-      (left.0, λ choice. subst (λ b. Tells (if b && names_slot slot choice then after else before) (left_by choice (s2.files 0))) (same_test k one.enough) (left.1 choice))
+  pub fuse_of_two : (T : Type 0) (s0 s1 s2 : DiskState) (result : Result T Trouble) → Passed 3 s0 s1 → FuseEnds {T = T} 2 Failed (Left 1) s1 s2 result → FuseEnds {T = T} 5 Failed (Left 4) s0 s2 result
+  fuse_of_two T s0 s1 s2 result first second =
+      ends_weaker T Trouble Failed 5 (Later 3 (Left 1)) (Left 4) s0 s2 result
+      (λ k few left. λ choice. subst (λ b. Tells (if b && names_slot slot choice then after else before) (left_by choice (s2.files 0))) (same_test k left.0) (left.1 choice))
+      (fuse_then T Trouble Failed 3 2 (Left 1) s0 s1 s2 result first second)
     where
       same_test : (k : ℕ) → 3 ≤ k → (k - 3 == 1) ≡ (k == 4)
       same_test k enough = elim (cases_eq k 4) [
@@ -82,10 +75,13 @@ module _ (slot bits member : ℕ) (before after : Node) (is : IsRaise slot bits 
       ]
 
   -- before the last two calls each choice leaves what was there
-  pub left_before : (left : DiskState) (k : ℕ) → k < 3 → ((choice : Choice) → Tells before (left_by choice (left.files 0))) → (k < 5) × Left 4 left k
-  left_before left k few before_all =
-      let no : k ≢ 4 = omega arith in
-      (omega arith, λ choice. subst (λ b. Tells (if b && names_slot slot choice then after else before) (left_by choice (left.files 0))) (sym (ne_eqb k 4 no)) (before_all choice))
+  pub left_before : (T : Type 0) (s0 s1 : DiskState) (e : Trouble) → ((choice : Choice) → Tells before (left_by choice (s1.files 0))) → FuseEnds {T = T} 3 Failed (λ _ _. Unit {0}) s0 s1 (Err e) → FuseEnds {T = T} 5 Failed (Left 4) s0 s1 (Err e)
+  left_before T s0 s1 e before_all ends =
+      ends_weaker T Trouble Failed 5 (Early 3 (λ _ _. Unit {0})) (Left 4) s0 s1 (Err e)
+      (λ k few left.
+      let differs : k ≢ 4 = omega (arith, left.0) in
+      λ choice. subst (λ b. Tells (if b && names_slot slot choice then after else before) (left_by choice (s1.files 0))) (sym (ne_eqb k 4 differs)) (before_all choice))
+      (fuse_first T T Trouble Failed 3 2 (λ _ _. Unit {0}) s0 s1 e ends)
 
 -- what was done to the bytes of a file that told the node before, whatever a crash would have left
 module _ (slot bits member : ℕ) (before after : Node) (is : IsRaise slot bits member before after) (below : slot < 2) (reads : List ℕ) (tells : Tells before reads) where

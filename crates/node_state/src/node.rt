@@ -1,13 +1,14 @@
 // The node state.
 ghost use Rattle.std.specs.Prelude.{◌≡◌, ◌≢◌, ◌⊎◌, ◌+◌, ◌-◌, ◌*◌, ◌<◌, ◌≤◌, ◌^◌, ℕ, ℤ, pos, negsuc, ◌<ℤ◌, ◌≤ℤ◌, ◌==◌, ◌&&◌, if◌then◌else◌, List, length, IsTrue, Some, None, Err, OnOk, OnErr, IsErrOf, IfSome, IfOk, IfErr, slice_index};
 ghost use Rattle.cl_base.specs.Counts.{HasCause};
-ghost use Rattle.cl_base.specs.Disk.{ChangesFile, IsImage, IsImageOf, LeavesOnly, settled_file, left_by};
-ghost use Rattle.cl_base.specs.Fuse.{FuseEnds, Passed};
+ghost use Rattle.cl_base.specs.Disk.{ChangesFile, OthersStay, IsImageOf, LeavesOnly, settled_file, left_by};
+ghost use Rattle.cl_base.specs.Fuse.{FuseEnds};
+ghost use Rattle.cl_base.specs.Looks.{Looks, Same};
 ghost use Rattle.cl_base.specs.Faults.{HasMountCause};
 ghost use Rattle.cl_base.specs.declared.disk.Choice.{Choice};
-ghost use Rattle.node_state.specs.Node.{Node, Tells, BeforeOrAfter, names_slot, member_of, StandsFor, IsWrongAt, AllOld, AllStand, Stays, migrated};
+ghost use Rattle.node_state.specs.Node.{Node, Tells, BeforeOrAfter, names_slot, member_of, StandsFor, IsWrongAt, IsTerm, AllOld, AllStand, IsSettled, Stays, LeavesNode, mount_calls, migrated};
 ghost use Rattle.node_state.specs.Fields.{u32_at};
-ghost use Rattle.node_state.specs.Steps.{AllTell, EachTells, IsReady, IsRaise, staged, selected};
+ghost use Rattle.node_state.specs.Steps.{AllTell, EachTells, IsReady, IsRaise, RaiseLeft, staged, selected};
 
 use crate::fields::{get_i64, get_u32};
 use cl_base::{Disk, MemberFault, Trouble, read_some, write_through};
@@ -22,14 +23,14 @@ pub struct NodeState {
 }
 
 impl Model for NodeState {
-    ghost use Rattle.std.specs.Prelude.{◌<◌};
-    ghost use Rattle.node_state.specs.Node.{Node};
+    ghost use Rattle.std.specs.Prelude.{◌<◌, IfSome};
+    ghost use Rattle.node_state.specs.Node.{Node, IsTerm};
 
     ghost Value = { Node };
 
     ghost view = { λ s. record { slot = s.slot; term = s.term; voted = s.voted } };
 
-    ghost invariant = { λ s. s.slot < 2 };
+    ghost invariant = { λ s. (s.slot < 2) × IsTerm s.term × IfSome s.voted (λ m. m < 5) };
 }
 
 /// Has a slot's fields on the disk.
@@ -39,6 +40,7 @@ fn stage<D: Disk>(disk: &mut D, slot: usize, bits: u64, member: u32) -> Result<(
     ensures cause { HasCause (D.fault_count disk.old) (D.fault_count disk.new) result }
     ensures tells { D.tells disk.new ≡ D.tells disk.old }
     ensures honest { D.is_honest disk.new ≡ D.is_honest disk.old }
+    ensures others { IsTrue (D.tells disk.old) → OthersStay 0 (D.state disk.old).files (D.state disk.new).files }
     ensures done { IsTrue (D.tells disk.old) → OnOk result (ChangesFile 0 (D.state disk.old).files (D.state disk.new).files (settled_file (staged slot bits member ((D.state disk.old).files 0).reads))) }
     ensures keeps { IsTrue (D.is_honest disk.old) → (node : Node) → node.slot ≡ 1 - slot → AllTell node (D.state disk.old).files (D.state disk.old).files
         → AllTell node (D.state disk.old).files (D.state disk.new).files }
@@ -59,6 +61,7 @@ fn select<D: Disk>(disk: &mut D, slot: usize) -> Result<(), Trouble>
     ensures cause { HasCause (D.fault_count disk.old) (D.fault_count disk.new) result }
     ensures tells { D.tells disk.new ≡ D.tells disk.old }
     ensures honest { D.is_honest disk.new ≡ D.is_honest disk.old }
+    ensures others { IsTrue (D.tells disk.old) → OthersStay 0 (D.state disk.old).files (D.state disk.new).files }
     ensures done { IsTrue (D.tells disk.old) → OnOk result (ChangesFile 0 (D.state disk.old).files (D.state disk.new).files (settled_file (selected slot ((D.state disk.old).files 0).reads))) }
     ensures cut_well { IsTrue (D.is_honest disk.old) → (before after : Node) (bytes : List ℕ) → IsReady before after bytes → (D.state disk.old).files 0 ≡ settled_file bytes
         → LeavesOnly D.moment D.left_since disk.old disk.new (BeforeOrAfter (D.state disk.old).files before after) }
@@ -81,6 +84,7 @@ fn raise_file<D: Disk>(disk: &mut D, slot: usize, bits: u64, member: u32) -> Res
     ensures cause { HasCause (D.fault_count disk.old) (D.fault_count disk.new) result }
     ensures tells { D.tells disk.new ≡ D.tells disk.old }
     ensures honest { D.is_honest disk.new ≡ D.is_honest disk.old }
+    ensures others { IsTrue (D.tells disk.old) → OthersStay 0 (D.state disk.old).files (D.state disk.new).files }
     ensures told { IsTrue (D.tells disk.old) → (before after : Node) → IsRaise slot bits member before after → Tells before ((D.state disk.old).files 0).reads
         → OnOk result (Tells after ((D.state disk.new).files 0).reads) }
     ensures done { IsTrue (D.is_honest disk.old) → (before after : Node) → IsRaise slot bits member before after → AllTell before (D.state disk.old).files (D.state disk.old).files
@@ -90,8 +94,7 @@ fn raise_file<D: Disk>(disk: &mut D, slot: usize, bits: u64, member: u32) -> Res
     ensures cut_well { IsTrue (D.is_honest disk.old) → (before after : Node) → IsRaise slot bits member before after → AllTell before (D.state disk.old).files (D.state disk.old).files
         → LeavesOnly D.moment D.left_since disk.old disk.new (BeforeOrAfter (D.state disk.old).files before after) }
     ensures fuse { IsTrue (D.is_honest disk.old) → (before after : Node) → IsRaise slot bits member before after → AllTell before (D.state disk.old).files (D.state disk.old).files
-        → FuseEnds 5 Trouble.Failed (λ left k. (choice : Choice) → Tells (if (k == 4) && names_slot slot choice then after else before) (left_by choice (left.files 0)))
-        (D.state disk.old) (D.state disk.new) result }
+        → FuseEnds 5 Trouble.Failed (RaiseLeft before after slot) (D.state disk.old) (D.state disk.new) result }
 {
     match stage(disk, slot, bits, member) {
         Ok(()) => select(disk, slot),
@@ -111,16 +114,27 @@ impl NodeState {
         ensures tells { D.tells disk.new ≡ D.tells disk.old }
         ensures honest { D.is_honest disk.new ≡ D.is_honest disk.old }
 
-        // It gives what the file stands for, and is damaged exactly at the first wrong place.
+        ensures others { IsTrue (D.tells disk.old) → OthersStay 0 (D.state disk.old).files (D.state disk.new).files }
+
+        // It gives what the file stands for, and is damaged exactly at the first wrong place; then nothing is changed.
         ensures gives { IsTrue (D.tells disk.old) → IfOk result (StandsFor ((D.state disk.old).files 0).reads) }
-        ensures damaged { IsTrue (D.tells disk.old) → (file place : ℕ) → result ≡ Err (MemberFault.Damaged file place) → (file ≡ 0) × IsWrongAt ((D.state disk.old).files 0).reads place }
+        ensures damaged { IsTrue (D.tells disk.old) → (file place : ℕ) → result ≡ Err (MemberFault.Damaged file place)
+            → (file ≡ 0) × IsWrongAt ((D.state disk.old).files 0).reads place × Same (D.state disk.old) (D.state disk.new) }
         ensures mounted { IsTrue (D.tells disk.old) → IfOk result (λ s. Tells s ((D.state disk.new).files 0).reads) }
 
-        // Where a crash before would leave what a read gives, each image stands for it all along.
-        ensures keeps { IsTrue (D.is_honest disk.old) → ((c : List ℕ) → IsImage ((D.state disk.old).files 0) c → c ≡ ((D.state disk.old).files 0).reads)
+        // Where a crash before would leave what a read gives, each image stands for it all along, and after Ok each
+        // image tells it.
+        ensures done { IsTrue (D.is_honest disk.old) → IsSettled (D.state disk.old).files → IfOk result (λ s. AllTell s (D.state disk.old).files (D.state disk.new).files) }
+        ensures keeps { IsTrue (D.is_honest disk.old) → IsSettled (D.state disk.old).files
             → (node : Node) → StandsFor ((D.state disk.old).files 0).reads node
             → AllStand node (D.state disk.old).files (D.state disk.new).files
             × LeavesOnly D.moment D.left_since disk.old disk.new (Stays (D.state disk.old).files node) }
+
+        // A file of version 2 takes no changing call, one of version 1 takes four. Where a fuse ends them each choice
+        // leaves what stands for the same.
+        ensures fuse { IsTrue (D.is_honest disk.old) → IsSettled (D.state disk.old).files
+            → (node : Node) → StandsFor ((D.state disk.old).files 0).reads node
+            → FuseEnds (mount_calls ((D.state disk.old).files 0).reads) MemberFault.Device (LeavesNode node) (D.state disk.old) (D.state disk.new) result }
     {
         match inspect(disk) {
             Ok((node, true)) => Ok(node),
@@ -134,14 +148,16 @@ impl NodeState {
 
     /// The candidate term, -1 to 2^62, where -1 is none.
     pub fn candidate_term(&self) -> i64
-        ensures { result ≡ self.now.term }
+        ensures value { result ≡ self.now.term }
+        ensures range { IsTerm result }
     {
         self.term
     }
 
     /// The member voted for in the candidate term, 0 to 4.
     pub fn voted(&self) -> Option<u8>
-        ensures { result ≡ self.now.voted }
+        ensures value { result ≡ self.now.voted }
+        ensures range { IfSome result (λ m. m < 5) }
     {
         self.voted
     }
@@ -165,6 +181,7 @@ impl NodeState {
         ensures cause { HasDeviceCause (D.fault_count disk.old) (D.fault_count disk.new) result }
         ensures tells { D.tells disk.new ≡ D.tells disk.old }
         ensures honest { D.is_honest disk.new ≡ D.is_honest disk.old }
+        ensures others { IsTrue (D.tells disk.old) → OthersStay 0 (D.state disk.old).files (D.state disk.new).files }
 
         // After Ok the file tells the new state.
         ensures raised { IsTrue (D.tells disk.old) → OnOk result (Tells (raised self.old term voted) ((D.state disk.new).files 0).reads) }
@@ -184,9 +201,7 @@ impl NodeState {
         // A fuse ends it where it lets fewer than five calls pass, and then each choice leaves the old state, but for
         // the choices that take the selector along at four.
         ensures fuse { IsTrue (D.is_honest disk.old) → AllTell self.old (D.state disk.old).files (D.state disk.old).files
-            → FuseEnds 5 MemberFault.Device
-            (λ left k. (choice : Choice) → Tells (if (k == 4) && names_slot (1 - self.old.slot) choice then raised self.old term voted else self.old) (left_by choice (left.files 0)))
-            (D.state disk.old) (D.state disk.new) result }
+            → FuseEnds 5 MemberFault.Device (RaiseLeft self.old (raised self.old term voted) (1 - self.old.slot)) (D.state disk.old) (D.state disk.new) result }
     {
         let slot = 1 - self.slot;
         match raise_file(disk, slot, term.cast_unsigned(), number_of(voted)) {
@@ -239,7 +254,8 @@ fn read_node(bytes: &[u8]) -> Result<(NodeState, bool), u64>
 
 fn member_at(bytes: &[u8], at: usize) -> Option<u8>
     requires { at + 4 ≤ length bytes.now }
-    ensures { result ≡ member_of (u32_at at bytes.now) }
+    ensures value { result ≡ member_of (u32_at at bytes.now) }
+    ensures range { IfSome result (λ m. m < 5) }
 {
     let n = get_u32(bytes, at);
     if n <= 4 { Some(n as u8) } else { None }
@@ -251,7 +267,9 @@ fn migrate<D: Disk>(disk: &mut D) -> Result<(), Trouble>
     ensures cause { HasCause (D.fault_count disk.old) (D.fault_count disk.new) result }
     ensures tells { D.tells disk.new ≡ D.tells disk.old }
     ensures honest { D.is_honest disk.new ≡ D.is_honest disk.old }
+    ensures others { IsTrue (D.tells disk.old) → OthersStay 0 (D.state disk.old).files (D.state disk.new).files }
     ensures done { IsTrue (D.tells disk.old) → OnOk result (ChangesFile 0 (D.state disk.old).files (D.state disk.new).files (settled_file (migrated ((D.state disk.old).files 0).reads))) }
+    ensures fuse { IsTrue (D.tells disk.old) → FuseEnds 4 Trouble.Failed (λ _ _. Unit {0}) (D.state disk.old) (D.state disk.new) result }
     ensures each { IsTrue (D.is_honest disk.old) → (node : Node) → AllOld node (D.state disk.old).files → AllStand node (D.state disk.old).files (D.state disk.new).files }
     ensures cut_well { IsTrue (D.is_honest disk.old) → (node : Node) → AllOld node (D.state disk.old).files
         → LeavesOnly D.moment D.left_since disk.old disk.new (Stays (D.state disk.old).files node) }
@@ -269,7 +287,7 @@ fn inspect<D: Disk>(disk: &mut D) -> Result<(NodeState, bool), MemberFault>
     ensures honest { D.is_honest disk.new ≡ D.is_honest disk.old }
     ensures gives { IsTrue (D.tells disk.old) → IfOk result (λ x. StandsFor ((D.state disk.old).files 0).reads x.0 × (x.1 ≡ (slice_index ((D.state disk.old).files 0).reads 17 == 2))) }
     ensures damaged { IsTrue (D.tells disk.old) → (file place : ℕ) → result ≡ Err (MemberFault.Damaged file place) → (file ≡ 0) × IsWrongAt ((D.state disk.old).files 0).reads place }
-    ensures same { IsTrue (D.tells disk.old) → (g : ℕ) → (D.state disk.new).files g ≡ (D.state disk.old).files g }
+    ensures looks { IsTrue (D.tells disk.old) → Looks MemberFault.Device (D.state disk.old) (D.state disk.new) result }
     ensures any_moment { IsTrue (D.is_honest disk.old) → LeavesOnly D.moment D.left_since disk.old disk.new (IsImageOf (D.state disk.old).files) }
 {
     let mut bytes = [0; 33];

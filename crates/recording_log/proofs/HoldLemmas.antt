@@ -10,7 +10,7 @@ use Rattle.recording_log.specs.declared.entry.RecEntry.{RecEntry}
 use Rattle.recording_log.specs.Entries.{entry_of, entry_at, gate_at, open_gate, Begins, Holds}
 use Rattle.recording_log.specs.Steps.{staged, added, IsAddition, IsReady}
 use Rattle.recording_log.proofs.BlockLemmas.{entry_same}
-use Rattle.recording_log.proofs.PlaceLemmas.{overwritten_inside, get_or-written_one, torn_overwritten}
+use Rattle.cl_base.specs.Places.{overwritten_inside, get_or-written_one, torn_overwritten}
 
 pub at_same : (i : ℕ) (c e : List ℕ) → ((k : ℕ) → k < 48 → get_or c (64 * i + k) 0 ≡ get_or e (64 * i + k) 0) → entry_at i c ≡ entry_at i e
 at_same i c e same = entry_same (drop (64 * i) c) (drop (64 * i) e) (λ k below. get_or-drop (64 * i) c k 0 ∙ same k below ∙ sym (get_or-drop (64 * i) e k 0))

@@ -1,10 +1,10 @@
 pub mod BlockLemmas
-pub mod PlaceLemmas
-pub mod EveryLemmas
 pub mod HoldLemmas
 pub mod Run
 pub mod StrikeLemmas
 pub mod SetLemmas
 pub mod PartLemmas
 pub mod MountLemmas
-pub mod FaultLemmas
+pub mod PutLemmas
+pub mod ListLemmas
+pub mod SameLemmas

@@ -14,7 +14,7 @@ use Rattle.recording_log.specs.Valid.{is_valid, is_term, is_snapshot, valid_of, 
 use Rattle.recording_log.specs.Sets.{IsLatest, struck, struck_kind}
 use Rattle.recording_log.proofs.HoldLemmas.{at_same}
 use Rattle.recording_log.proofs.SetLemmas.{latest_once}
-use Rattle.recording_log.proofs.PlaceLemmas.{apart, get_or-written_one, torn_overwritten}
+use Rattle.cl_base.specs.Places.{apart, get_or-written_one, torn_overwritten}
 
 -- an entry with another kind
 abbrev pub with_kind : ℕ → RecEntry → RecEntry

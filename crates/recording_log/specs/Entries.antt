@@ -1,6 +1,7 @@
 -- The entries of a recording log, as the bytes of its file tell them.
-use Rattle.std.specs.Prelude.{◌≡◌, ◌≢◌, ◌⊎◌, ℕ, ◌+◌, ◌*◌, ◌<◌, ◌≤◌, List, length, drop, slice_index, slice_index_or, Option, MatchOption}
+use Rattle.std.specs.Prelude.{◌≡◌, ◌≢◌, ◌⊎◌, ℕ, ◌+◌, ◌*◌, ◌<◌, ◌≤◌, List, [], length, drop, slice_index, slice_index_or, Option, MatchOption}
 use Rattle.recording_log.specs.declared.entry.RecEntry.{RecEntry}
+use Rattle.cl_base.specs.Disk.{FileState, settled_file}
 use Rattle.wire_prims.specs.Fields.{i64_at, i32_at, u32_at}
 
 -- the fields of an entry, after Aeron's recording log
@@ -57,3 +58,9 @@ IsNext at bytes next = (at + 64 ≤ length bytes)
 -- the file ends fewer than 64 bytes behind this place
 abbrev pub IsShortAt : ℕ → List ℕ → ℕ → Type 0
 IsShortAt at bytes place = (length bytes < at + 64) × (place ≡ length bytes)
+
+-- the file of a new member, all of it on the disk
+pub record IsFresh (s : FileState) : Type 0 where
+  pub bytes : List ℕ
+  pub settled : s ≡ settled_file bytes
+  pub holds : Holds [] bytes

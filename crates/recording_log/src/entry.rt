@@ -1,5 +1,5 @@
 // The entries of the log.
-ghost use Rattle.std.specs.Prelude.{◌≡◌, ◌≤◌, length, ◌<◌, if◌then◌else◌, Some, None, IsTrue, ◌↔◌, pos, ◌^◌};
+ghost use Rattle.std.specs.Prelude.{◌≡◌, ◌≤◌, length, ◌<◌, ◌≤ℤ◌, if◌then◌else◌, Some, None, IsTrue, ◌↔◌, pos, ◌^◌};
 ghost use Rattle.recording_log.specs.Entries.{entry_of};
 ghost use Rattle.recording_log.specs.Valid.{in_range, is_valid, is_term, is_snapshot, term_of, names_snapshot, term_entry, snapshot_entry};
 ghost use Rattle.recording_log.specs.Sets.{IsPart};
@@ -178,6 +178,9 @@ impl RecEntry {
         ensures recording { self.recording ≡ pos result.recording }
         ensures term { self.term ≡ result.term }
         ensures position { self.position ≡ pos result.position }
+        ensures named { result.recording < 1024 }
+        ensures low { pos 0 ≤ℤ result.term }
+        ensures high { result.term ≤ℤ pos (2 ^ 62) }
     {
         SnapshotAt {
             recording: self.recording as u64,

@@ -1,15 +1,15 @@
 // The calls of the disk that change the log.
 ghost use Rattle.std.specs.Prelude.{◌≡◌, ◌⊎◌, ◌+◌, ◌*◌, ◌^◌, ◌<◌, ◌≤◌, ◌==◌, ◌&&◌, not, if◌then◌else◌, ℕ, List, [], ◌∷◌, ◌++◌, length, IsTrue, Some, OnOk, slice_get};
 ghost use Rattle.cl_base.specs.Counts.{HasCause};
-ghost use Rattle.cl_base.specs.Disk.{ChangesFile, LeavesOnly, settled_file, left_by, overwritten};
+ghost use Rattle.cl_base.specs.Disk.{ChangesFile, OthersStay, LeavesOnly, settled_file, overwritten};
 ghost use Rattle.cl_base.specs.Fuse.{FuseEnds};
 ghost use Rattle.cl_base.specs.declared.disk.Choice.{Choice};
 ghost use Rattle.recording_log.specs.declared.entry.RecEntry.{RecEntry};
-ghost use Rattle.recording_log.specs.Every.{EveryImage, FileIs, takes};
+ghost use Rattle.cl_base.specs.Every.{EveryImage, FileIs, takes};
 ghost use Rattle.recording_log.specs.Entries.{Holds, HoldsOne, open_gate};
 ghost use Rattle.recording_log.specs.Valid.{Stands, StandsOne, valid_of};
 ghost use Rattle.recording_log.specs.Sets.{IsStrike, is_struck, struck};
-ghost use Rattle.recording_log.specs.Steps.{staged, added, IsAddition, is_open};
+ghost use Rattle.recording_log.specs.Steps.{staged, added, IsAddition, AddLeft, StrikeLeft};
 
 use cl_base::{Disk, Trouble, write_through};
 
@@ -30,6 +30,7 @@ fn stage<D: Disk>(disk: &mut D, at: u64, block: &[u8]) -> Result<(), Trouble>
     ensures cause { HasCause (D.fault_count disk.old) (D.fault_count disk.new) result }
     ensures tells { D.tells disk.new ≡ D.tells disk.old }
     ensures honest { D.is_honest disk.new ≡ D.is_honest disk.old }
+    ensures others { IsTrue (D.tells disk.old) → OthersStay 1 (D.state disk.old).files (D.state disk.new).files }
     ensures done { IsTrue (D.tells disk.old) → OnOk result (ChangesFile 1 (D.state disk.old).files (D.state disk.new).files (settled_file (staged at block.now ((D.state disk.old).files 1).reads))) }
     ensures each { IsTrue (D.is_honest disk.old) → (entries : List RecEntry) → at ≡ 64 * length entries → EveryImage 1 (Holds entries) (D.state disk.old).files (D.state disk.old).files
         → EveryImage 1 (Holds entries) (D.state disk.old).files (D.state disk.new).files }
@@ -51,14 +52,14 @@ pub fn add_to_file<D: Disk>(disk: &mut D, at: u64, block: &[u8]) -> Result<(), T
     ensures cause { HasCause (D.fault_count disk.old) (D.fault_count disk.new) result }
     ensures tells { D.tells disk.new ≡ D.tells disk.old }
     ensures honest { D.is_honest disk.new ≡ D.is_honest disk.old }
+    ensures others { IsTrue (D.tells disk.old) → OthersStay 1 (D.state disk.old).files (D.state disk.new).files }
     ensures done { IsTrue (D.tells disk.old) → OnOk result (ChangesFile 1 (D.state disk.old).files (D.state disk.new).files (settled_file (added at block.now ((D.state disk.old).files 1).reads))) }
     ensures each { IsTrue (D.is_honest disk.old) → (before : List RecEntry) (entry : RecEntry) → IsAddition at block.now before entry → EveryImage 1 (Holds before) (D.state disk.old).files (D.state disk.old).files
         → EveryImage 1 (HoldsOne before (before ++ entry ∷ [])) (D.state disk.old).files (D.state disk.new).files }
     ensures cut_well { IsTrue (D.is_honest disk.old) → (before : List RecEntry) (entry : RecEntry) → IsAddition at block.now before entry → EveryImage 1 (Holds before) (D.state disk.old).files (D.state disk.old).files
         → LeavesOnly D.moment D.left_since disk.old disk.new (FileIs 1 (HoldsOne before (before ++ entry ∷ [])) (D.state disk.old).files) }
     ensures fuse { IsTrue (D.is_honest disk.old) → (before : List RecEntry) (entry : RecEntry) → IsAddition at block.now before entry → EveryImage 1 (Holds before) (D.state disk.old).files (D.state disk.old).files
-        → FuseEnds 5 Trouble.Failed (λ left k. (choice : Choice) → Holds (if (k == 4) && takes is_open choice then before ++ entry ∷ [] else before) (left_by choice (left.files 1)))
-        (D.state disk.old) (D.state disk.new) result }
+        → FuseEnds 5 Trouble.Failed (AddLeft before (before ++ entry ∷ [])) (D.state disk.old) (D.state disk.new) result }
 {
     match stage(disk, at, block) {
         Ok(()) => write_through(disk, FILE, at + 63, &[OPEN]),
@@ -72,14 +73,14 @@ pub fn strike<D: Disk>(disk: &mut D, at: u64) -> Result<(), Trouble>
     ensures cause { HasCause (D.fault_count disk.old) (D.fault_count disk.new) result }
     ensures tells { D.tells disk.new ≡ D.tells disk.old }
     ensures honest { D.is_honest disk.new ≡ D.is_honest disk.old }
+    ensures others { IsTrue (D.tells disk.old) → OthersStay 1 (D.state disk.old).files (D.state disk.new).files }
     ensures done { IsTrue (D.tells disk.old) → OnOk result (ChangesFile 1 (D.state disk.old).files (D.state disk.new).files (settled_file (overwritten at (128 ∷ []) ((D.state disk.old).files 1).reads))) }
     ensures each { IsTrue (D.is_honest disk.old) → (entries : List RecEntry) (i : ℕ) (e : RecEntry) → IsStrike at i e entries → EveryImage 1 (Holds entries) (D.state disk.old).files (D.state disk.old).files
         → EveryImage 1 (StandsOne (valid_of entries) (valid_of (struck i e entries))) (D.state disk.old).files (D.state disk.new).files }
     ensures cut_well { IsTrue (D.is_honest disk.old) → (entries : List RecEntry) (i : ℕ) (e : RecEntry) → IsStrike at i e entries → EveryImage 1 (Holds entries) (D.state disk.old).files (D.state disk.old).files
         → LeavesOnly D.moment D.left_since disk.old disk.new (FileIs 1 (StandsOne (valid_of entries) (valid_of (struck i e entries))) (D.state disk.old).files) }
     ensures fuse { IsTrue (D.is_honest disk.old) → (entries : List RecEntry) (i : ℕ) (e : RecEntry) → IsStrike at i e entries → EveryImage 1 (Holds entries) (D.state disk.old).files (D.state disk.old).files
-        → FuseEnds 2 Trouble.Failed (λ left k. (choice : Choice) → Stands (if (k == 1) && takes is_struck choice then valid_of (struck i e entries) else valid_of entries) (left_by choice (left.files 1)))
-        (D.state disk.old) (D.state disk.new) result }
+        → FuseEnds 2 Trouble.Failed (StrikeLeft entries (struck i e entries)) (D.state disk.old) (D.state disk.new) result }
 {
     write_through(disk, FILE, at, &[STRUCK])
 }

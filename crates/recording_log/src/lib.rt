@@ -3,9 +3,12 @@
 
 mod entry;
 mod file;
+mod fresh;
+mod list;
 mod log;
 mod parts;
 mod sets;
 
-pub use entry::{RecEntry, SnapshotAt, TermAt};
+pub use entry::{MODULE, RECORDINGS, RecEntry, SnapshotAt, TermAt};
+pub use fresh::format;
 pub use log::RecordingLog;

@@ -1,21 +1,23 @@
 // The recording log.
 ghost use Rattle.std.specs.Prelude.{◌≡◌, ◌≢◌, ◌+◌, ◌*◌, ◌^◌, ◌<◌, ◌≤◌, ◌==◌, ◌&&◌, ◌↔◌, if◌then◌else◌, ℕ, ℤ, pos, negsuc, ◌≤ℤ◌, List, [], ◌∷◌, ◌++◌, length, drop, IsTrue, IsFalse, Err, OnOk, OnErr, OnSome, IfSome, IfOk, MatchOption, vec_len, vec_capacity, slice_get, slice_index};
 ghost use Rattle.cl_base.specs.Faults.{HasDeviceCause, HasMountCause};
-ghost use Rattle.cl_base.specs.Disk.{LeavesOnly, IsImage, IsImageOf, left_by};
+ghost use Rattle.cl_base.specs.Disk.{OthersStay, LeavesOnly, IsImageOf};
 ghost use Rattle.cl_base.specs.Fuse.{FuseEnds};
+ghost use Rattle.cl_base.specs.Looks.{Looks};
 ghost use Rattle.cl_base.specs.declared.disk.Choice.{Choice};
 ghost use Rattle.recording_log.specs.declared.entry.RecEntry.{RecEntry};
-ghost use Rattle.recording_log.specs.Every.{EveryImage, FileIs, takes};
+ghost use Rattle.cl_base.specs.Every.{EveryImage, FileIs, takes};
 ghost use Rattle.recording_log.specs.Entries.{Holds, HoldsOne, IsWrongAt, IsNext, IsShortAt, entry_of, open_gate};
 ghost use Rattle.recording_log.specs.Valid.{Stands, StandsOne, valid_of, terms_of, term_entry, snapshot_entry};
 ghost use Rattle.recording_log.specs.Sets.{HasNoSet, IsLatest, IsLatestSet, struck, is_struck};
-ghost use Rattle.recording_log.specs.Steps.{is_open};
+ghost use Rattle.recording_log.specs.Parts.{Tells};
+ghost use Rattle.recording_log.specs.Steps.{AddLeft, StrikeLeft};
 
 use crate::entry::{RecEntry, SnapshotAt, TermAt};
 use crate::file::{FILE, OPEN, add_to_file, strike};
 use crate::parts::Parts;
 use crate::sets::latest_index;
-use cl_base::{Disk, MemberFault, read_some};
+use cl_base::{Disk, MemberFault, NoMemory, read_some};
 use std::alloc::Global;
 use std::marker::Model;
 
@@ -94,7 +96,7 @@ fn read_entry<D: Disk>(disk: &mut D, at: u64) -> Result<Option<RecEntry>, Member
     ensures honest { D.is_honest disk.new ≡ D.is_honest disk.old }
     ensures gives { IsTrue (D.tells disk.old) → IfOk result (IsNext at ((D.state disk.old).files 1).reads) }
     ensures damaged { IsTrue (D.tells disk.old) → (file place : ℕ) → result ≡ Err (MemberFault.Damaged file place) → (file ≡ 1) × IsShortAt at ((D.state disk.old).files 1).reads place }
-    ensures same { IsTrue (D.tells disk.old) → (g : ℕ) → (D.state disk.new).files g ≡ (D.state disk.old).files g }
+    ensures looks { IsTrue (D.tells disk.old) → Looks MemberFault.Device (D.state disk.old) (D.state disk.new) result }
     ensures any_moment { IsTrue (D.is_honest disk.old) → LeavesOnly D.moment D.left_since disk.old disk.new (IsImageOf (D.state disk.old).files) }
 {
     let mut block = [0; 64];
@@ -125,7 +127,7 @@ impl RecordingLog {
         ensures honest { D.is_honest disk.new ≡ D.is_honest disk.old }
         ensures gives { IsTrue (D.tells disk.old) → IfOk result (λ log. Holds log ((D.state disk.old).files 1).reads) }
         ensures damaged { IsTrue (D.tells disk.old) → (file place : ℕ) → result ≡ Err (MemberFault.Damaged file place) → (file ≡ 1) × IsWrongAt ((D.state disk.old).files 1).reads place }
-        ensures same { IsTrue (D.tells disk.old) → (g : ℕ) → (D.state disk.new).files g ≡ (D.state disk.old).files g }
+        ensures looks { IsTrue (D.tells disk.old) → Looks MemberFault.Device (D.state disk.old) (D.state disk.new) result }
         ensures any_moment { IsTrue (D.is_honest disk.old) → LeavesOnly D.moment D.left_since disk.old disk.new (IsImageOf (D.state disk.old).files) }
     {
         let mut entries = Vec::new(alloc);
@@ -159,6 +161,26 @@ impl RecordingLog {
         ensures { result.now ≡ self.now }
     {
         &self.entries
+    }
+
+    /// Makes room in a list of sets for as many as there are entries and so many more, at most 1,024.
+    pub fn reserve_sets(&self, sets: &mut Vec<SnapshotAt>, more: usize) -> Result<(), NoMemory>
+        requires { more ≤ 1024 }
+        ensures items { sets.new.items ≡ sets.old.items }
+        ensures room { OnOk result (length self.now + more ≤ vec_capacity sets.new) }
+    {
+        let entries = self.entries.len();
+        match sets.reserve(entries + more) {
+            Ok(()) => Ok(()),
+            Err(_) => Err(NoMemory),
+        }
+    }
+
+    /// The parts of sets that the entries have.
+    pub fn parts(&self) -> &Parts
+        ensures { Tells result.now self.now }
+    {
+        &self.parts
     }
 
     /// The leadership terms of the valid TERM entries, in the order of the file.
@@ -197,6 +219,7 @@ impl RecordingLog {
         ensures cause { HasDeviceCause (D.fault_count disk.old) (D.fault_count disk.new) result }
         ensures tells { D.tells disk.new ≡ D.tells disk.old }
         ensures honest { D.is_honest disk.new ≡ D.is_honest disk.old }
+        ensures others { IsTrue (D.tells disk.old) → OthersStay 1 (D.state disk.old).files (D.state disk.new).files }
         ensures mounted { IsTrue (D.tells disk.old) → OnOk result (Holds (self.old ++ term_entry term base stamp ∷ []) ((D.state disk.new).files 1).reads) }
 
         // After Ok each image has the entry. The other files are as they were.
@@ -212,9 +235,7 @@ impl RecordingLog {
         // A fuse ends it where it lets fewer than five calls pass, and then each choice leaves the entries from before,
         // but for the choices that take the open gate along at four.
         ensures fuse { IsTrue (D.is_honest disk.old) → EveryImage 1 (Holds self.old) (D.state disk.old).files (D.state disk.old).files
-            → FuseEnds 5 MemberFault.Device
-            (λ left k. (choice : Choice) → Holds (if (k == 4) && takes is_open choice then self.old ++ term_entry term base stamp ∷ [] else self.old) (left_by choice (left.files 1)))
-            (D.state disk.old) (D.state disk.new) result }
+            → FuseEnds 5 MemberFault.Device (AddLeft self.old (self.old ++ term_entry term base stamp ∷ [])) (D.state disk.old) (D.state disk.new) result }
     {
         self.add(disk, RecEntry::of_term(term, base, stamp))
     }
@@ -243,6 +264,7 @@ impl RecordingLog {
         ensures cause { HasDeviceCause (D.fault_count disk.old) (D.fault_count disk.new) result }
         ensures tells { D.tells disk.new ≡ D.tells disk.old }
         ensures honest { D.is_honest disk.new ≡ D.is_honest disk.old }
+        ensures others { IsTrue (D.tells disk.old) → OthersStay 1 (D.state disk.old).files (D.state disk.new).files }
         ensures mounted { IsTrue (D.tells disk.old) → OnOk result (Holds (self.old ++ snapshot_entry recording term base position stamp service ∷ []) ((D.state disk.new).files 1).reads) }
 
         // After Ok each image has the entry. The other files are as they were.
@@ -258,9 +280,7 @@ impl RecordingLog {
         // A fuse ends it where it lets fewer than five calls pass, and then each choice leaves the entries from before,
         // but for the choices that take the open gate along at four.
         ensures fuse { IsTrue (D.is_honest disk.old) → EveryImage 1 (Holds self.old) (D.state disk.old).files (D.state disk.old).files
-            → FuseEnds 5 MemberFault.Device
-            (λ left k. (choice : Choice) → Holds (if (k == 4) && takes is_open choice then self.old ++ snapshot_entry recording term base position stamp service ∷ [] else self.old) (left_by choice (left.files 1)))
-            (D.state disk.old) (D.state disk.new) result }
+            → FuseEnds 5 MemberFault.Device (AddLeft self.old (self.old ++ snapshot_entry recording term base position stamp service ∷ [])) (D.state disk.old) (D.state disk.new) result }
     {
         let entry = RecEntry::of_snapshot(recording, term, base, position, stamp, service);
         self.add(disk, entry)
@@ -275,12 +295,14 @@ impl RecordingLog {
     ) -> Result<bool, MemberFault>
         requires { IsTrue (D.tells disk.old) → Holds self.old ((D.state disk.old).files 1).reads }
         ensures found { IfOk result (λ found. IsFalse found ↔ HasNoSet services self.old) }
+        ensures count { length self.new ≡ length self.old }
         ensures nothing { HasNoSet services self.old → (self.new ≡ self.old) × (D.state disk.new ≡ D.state disk.old) }
         ensures ok { (i : ℕ) (e : RecEntry) → IsLatest services self.old i e → OnOk result (self.new ≡ struck i e self.old) }
         ensures err { OnErr result (self.new ≡ self.old) }
         ensures cause { HasDeviceCause (D.fault_count disk.old) (D.fault_count disk.new) result }
         ensures tells { D.tells disk.new ≡ D.tells disk.old }
         ensures honest { D.is_honest disk.new ≡ D.is_honest disk.old }
+        ensures others { IsTrue (D.tells disk.old) → OthersStay 1 (D.state disk.old).files (D.state disk.new).files }
         ensures mounted { IsTrue (D.tells disk.old) → OnOk result (Holds self.new ((D.state disk.new).files 1).reads) }
 
         // After Ok each image has the entries as they are then. The other files are as they were.
@@ -300,9 +322,7 @@ impl RecordingLog {
         // for the choices that take a byte other than 0 along at one.
         ensures fuse { IsTrue (D.is_honest disk.old) → EveryImage 1 (Holds self.old) (D.state disk.old).files (D.state disk.old).files
             → (i : ℕ) (e : RecEntry) → IsLatest services self.old i e
-            → FuseEnds 2 MemberFault.Device
-            (λ left k. (choice : Choice) → Stands (if (k == 1) && takes is_struck choice then valid_of (struck i e self.old) else valid_of self.old) (left_by choice (left.files 1)))
-            (D.state disk.old) (D.state disk.new) result }
+            → FuseEnds 2 MemberFault.Device (StrikeLeft self.old (struck i e self.old)) (D.state disk.old) (D.state disk.new) result }
     {
         match latest_index(&self.entries, &self.parts, services) {
             None => Ok(false),
@@ -326,6 +346,7 @@ impl RecordingLog {
         ensures cause { HasDeviceCause (D.fault_count disk.old) (D.fault_count disk.new) result }
         ensures tells { D.tells disk.new ≡ D.tells disk.old }
         ensures honest { D.is_honest disk.new ≡ D.is_honest disk.old }
+        ensures others { IsTrue (D.tells disk.old) → OthersStay 1 (D.state disk.old).files (D.state disk.new).files }
         ensures mounted { IsTrue (D.tells disk.old) → OnOk result (Holds (self.old ++ entry ∷ []) ((D.state disk.new).files 1).reads) }
 
         // After Ok each image has the entry. The other files are as they were.
@@ -341,9 +362,7 @@ impl RecordingLog {
         // A fuse ends it where it lets fewer than five calls pass, and then each choice leaves the entries from before,
         // but for the choices that take the open gate along at four.
         ensures fuse { IsTrue (D.is_honest disk.old) → EveryImage 1 (Holds self.old) (D.state disk.old).files (D.state disk.old).files
-            → FuseEnds 5 MemberFault.Device
-            (λ left k. (choice : Choice) → Holds (if (k == 4) && takes is_open choice then self.old ++ entry ∷ [] else self.old) (left_by choice (left.files 1)))
-            (D.state disk.old) (D.state disk.new) result }
+            → FuseEnds 5 MemberFault.Device (AddLeft self.old (self.old ++ entry ∷ [])) (D.state disk.old) (D.state disk.new) result }
     {
         let Some(at) = make_room(&mut self.entries, &mut self.terms) else {
             return Err(MemberFault::NoMemory);

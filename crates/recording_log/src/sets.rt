@@ -3,6 +3,7 @@ ghost use Rattle.std.specs.Prelude.{◌≡◌, ◌+◌, ◌<◌, List, length, I
 ghost use Rattle.recording_log.specs.declared.entry.RecEntry.{RecEntry};
 ghost use Rattle.recording_log.specs.Sets.{HasSet, HasNoSet, IsLatest, IsUpTo, IsCandidate, IsSoFar};
 ghost use Rattle.recording_log.specs.Parts.{Tells};
+ghost use Rattle.recording_log.specs.Valid.{is_snapshot};
 
 use crate::entry::{MODULE, RecEntry};
 use crate::parts::Parts;
@@ -20,8 +21,9 @@ fn has_set(parts: &Parts, services: u8, of: RecEntry) -> bool
 }
 
 /// The entry is the module's of a valid set.
-fn is_candidate(parts: &Parts, services: u8, e: RecEntry) -> bool
-    ensures { (entries : List RecEntry) → Tells parts.now entries → IsTrue result ↔ IsCandidate services entries e }
+pub fn is_candidate(parts: &Parts, services: u8, e: RecEntry) -> bool
+    ensures candidate { (entries : List RecEntry) → Tells parts.now entries → IsTrue result ↔ IsCandidate services entries e }
+    ensures counts { IsTrue result → IsTrue (is_snapshot e) }
 {
     e.is_part(e, MODULE) && has_set(parts, services, e)
 }

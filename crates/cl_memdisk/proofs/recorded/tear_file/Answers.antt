@@ -1,12 +1,8 @@
--- A torn range changes its file alone, and is recorded.
-use Rattle.std.proofs.Common.{◌∷◌, ◌++◌, [], length, slice_set, ◌∙◌, ap, arith}
+-- A torn range changes its file alone.
+use Rattle.std.proofs.Common.{length, ap, arith}
 use Rattle.cl_memdisk.specs.Changes.{torn_file}
 use Rattle.cl_memdisk.specs.Changes.{FileData}
-use Rattle.cl_memdisk.specs.Files.{data_at}
-use Rattle.cl_memdisk.specs.Past.{without_last}
-use Rattle.cl_memdisk.specs.declared.past.Past.TheVariants.{Changed}
-use Rattle.cl_memdisk.proofs.FilesLemmas.{was_at, here, others, changes, stays}
-use Rattle.cl_memdisk.proofs.PastLemmas.{elapses_push, undo_here}
+use Rattle.cl_memdisk.proofs.FilesLemmas.{was_at, changes, stays}
 use Rattle.cl_memdisk.proofs.recorded.tear_file.Goals as goal
 
 pub tear-requires-clause-starts : goal.tear-requires-clause-starts
@@ -19,13 +15,3 @@ returns-in_default-clause-err c = stays c.args.files.now.items c.room.new.files.
 
 pub returns-clause-ok : goal.returns-clause-ok
 returns-clause-ok c = changes c.args.files.now.items c.room.new.files.items c.args.file c.index_mut-f.result.now c.tear.new.self c.in_ok-room.ensures.same c.in_ok-room.ensures.there c.index_mut-f.ensures.value (torn_file c.args.from c.args.end) c.in-Ok.ensures.done
-
-pub returns-clause-time : goal.returns-clause-time
-returns-clause-time c =
-    let past = Changed c.args.file c.in-Ok.was.least c.in-Ok.was.most in
-    let old = data_at c.args.files.now.items in
-    let new = data_at (slice_set c.room.new.files.items c.args.file c.tear.new.self) in
-    let back = ap (without_last c.in-Ok.was.least c.in-Ok.was.most) (here c.args.files.now.items c.room.new.files.items c.args.file c.index_mut-f.result.now c.tear.new.self c.in_ok-room.ensures.same c.in_ok-room.ensures.there c.index_mut-f.ensures.value) ∙ c.in-Ok.ensures.back
-    ∙ was_at c.args.files.now.items c.room.new.files.items c.args.file c.index_mut-f.result.now c.tear.new.self c.in_ok-room.ensures.same c.in_ok-room.ensures.there c.index_mut-f.ensures.value in
-    elapses_push c.args.calls.now.items c.push.new.self.items past old new (c.in-Ok-push.ensures.items ∙ ap (λ l. l ++ past ∷ []) c.in_ok-room.ensures.calls)
-    (undo_here past old new back (others c.args.files.now.items c.room.new.files.items c.args.file c.index_mut-f.result.now c.tear.new.self c.in_ok-room.ensures.same c.in_ok-room.ensures.there c.index_mut-f.ensures.value))

@@ -3,9 +3,9 @@ use Rattle.std.proofs.Common.{◌≡◌, ℕ, ◌+◌, ◌*◌, inl, inr, List, 
 use Rattle.cl_base.specs.Torn.{Torn, run_after, weaker}
 use Rattle.cl_base.specs.Through.{IsTornFrom, ThroughLeft}
 use Rattle.recording_log.specs.declared.entry.RecEntry.{RecEntry}
-use Rattle.recording_log.specs.Every.{FileIs}
+use Rattle.cl_base.specs.Every.{FileIs}
 use Rattle.recording_log.specs.Entries.{Holds}
-use Rattle.recording_log.proofs.EveryLemmas.{every_through, moment_through}
+use Rattle.cl_base.specs.EveryRun.{every_through, moment_through}
 use Rattle.recording_log.proofs.HoldLemmas.{torn_holds}
 use Rattle.recording_log.proofs.Run.{first_every, first_run, then_ends}
 use Rattle.recording_log.proofs.file.stage.Goals as goal

@@ -6,13 +6,14 @@ use Rattle.cl_base.specs.Through.{IsTornFrom, ThroughLeft}
 use Rattle.cl_base.specs.declared.fault.Trouble.{Trouble}
 use Rattle.cl_base.specs.declared.fault.Trouble.TheVariants.{Failed}
 use Rattle.recording_log.specs.declared.entry.RecEntry.{RecEntry}
-use Rattle.recording_log.specs.Every.{FileIs, takes}
+use Rattle.cl_base.specs.Every.{FileIs, takes}
 use Rattle.recording_log.specs.Entries.{Holds}
 use Rattle.recording_log.specs.Valid.{Stands, StandsOne, valid_of}
 use Rattle.recording_log.specs.Sets.{struck, is_struck}
-use Rattle.recording_log.proofs.EveryLemmas.{every_through, moment_through, flips_either, through_left}
+use Rattle.cl_base.specs.EveryRun.{every_through, moment_through, flips_either, through_left}
 use Rattle.recording_log.proofs.StrikeLemmas.{holds_stands, strike_flips}
-use Rattle.recording_log.proofs.Run.{Left, ends_weaker}
+use Rattle.recording_log.proofs.Run.{Left}
+use Rattle.cl_base.specs.Fuse.{ends_weaker}
 use Rattle.recording_log.proofs.file.strike.Goals as goal
 
 pub returns-clause-each : goal.returns-clause-each

@@ -1,5 +1,5 @@
 -- The number is looked for in the list.
-use Rattle.std.proofs.Common.{◌≡◌, ℕ, List, eqb, subst}
+use Rattle.std.proofs.Common.{ℕ, List, eqb, subst}
 use Rattle.std.specs.Prelude.{Contains, IsTrue, ◌↔◌}
 use Rattle.std.proofs.lemmas.List.Elements.{contains_decides, Decides-contains}
 use Rattle.std.proofs.lemmas.Bool.Decides.{Decides-eqb}

@@ -4,13 +4,13 @@ use Rattle.cl_base.specs.Disk.{FileState}
 use Rattle.recording_log.specs.declared.entry.RecEntry.{RecEntry}
 use Rattle.recording_log.specs.Entries.{Holds}
 use Rattle.recording_log.specs.Valid.{terms_of}
-use Rattle.recording_log.specs.Steps.{IsAddition, added}
+use Rattle.recording_log.specs.Steps.{IsAddition, AddLeft, added}
 use Rattle.recording_log.specs.Parts.{Tells, TellsWith, part_of}
-use Rattle.recording_log.proofs.EveryLemmas.{every_settled}
+use Rattle.cl_base.specs.EveryRun.{every_settled}
 use Rattle.recording_log.proofs.HoldLemmas.{added_holds}
 use Rattle.recording_log.proofs.MountLemmas.{terms_more}
 use Rattle.recording_log.proofs.PartLemmas.{with_last, on_ok, on_err}
-use Rattle.recording_log.proofs.FaultLemmas.{device_is_failed}
+use Rattle.cl_base.specs.Fuse.{fuse_of_member}
 use Rattle.recording_log.proofs.log.RecordingLog.add.Goals as goal
 
 pub invariant_of-self-in-Ok : goal.invariant_of-self-in-Ok
@@ -107,7 +107,7 @@ returns-in-Err-clause-cut_well g c honest every =
     c.add_to_file.ensures.cut_well honest now c.args.entry is every
 
 pub returns-in-Err-clause-fuse : goal.returns-in-Err-clause-fuse
-returns-in-Err-clause-fuse g c honest every k lets alive failed stays =
+returns-in-Err-clause-fuse g c honest every =
     let now = c.args.self.now in
     let at = c.in-Some.at in
     let size : length c.bytes.result ≡ 63 = search rules in
@@ -116,4 +116,5 @@ returns-in-Err-clause-fuse g c honest every k lets alive failed stays =
       size = size;
       spells = c.bytes.ensures;
     } in
-    c.in-Err.ensures.fuse honest now c.args.entry is every k lets alive (device_is_failed c.in-Err.trouble (sym c.from.ensures ∙ failed)) stays
+    fuse_of_member (Unit {0}) (Unit {0}) 5 (AddLeft now (now ++ c.args.entry ∷ [])) (g.D.Disk.state c.args.disk.now) (g.D.Disk.state c.add_to_file.new.disk) c.in-Err.trouble c.from.result c.from.ensures
+    (c.in-Err.ensures.fuse honest now c.args.entry is every)

@@ -5,8 +5,9 @@ use Rattle.cl_base.specs.Disk.{FileState, overwritten}
 use Rattle.recording_log.specs.declared.entry.RecEntry.{RecEntry}
 use Rattle.recording_log.specs.Entries.{Holds}
 use Rattle.recording_log.specs.Sets.{HasNoSet, IsLatest, IsStrike, struck, struck_kind}
-use Rattle.recording_log.proofs.EveryLemmas.{every_settled}
-use Rattle.recording_log.proofs.FaultLemmas.{device_is_failed}
+use Rattle.cl_base.specs.EveryRun.{every_settled}
+use Rattle.cl_base.specs.Fuse.{fuse_of_member}
+use Rattle.recording_log.specs.Steps.{StrikeLeft}
 use Rattle.recording_log.specs.Parts.{Tells, TellsWith, part_of}
 use Rattle.recording_log.proofs.PartLemmas.{with_struck}
 use Rattle.recording_log.proofs.SetLemmas.{zero_entry, latest_once}
@@ -193,10 +194,11 @@ returns-in-Err-clause-cut_well g c honest every j d latest =
     c.strike.ensures.cut_well honest now j d (strike_of c.args.services now c.in-Some.i j m d mine latest) every
 
 pub returns-in-Err-clause-fuse : goal.returns-in-Err-clause-fuse
-returns-in-Err-clause-fuse g c honest every j d latest k lets alive failed stays =
+returns-in-Err-clause-fuse g c honest every j d latest =
     let found = c.deref.result.now in
     let now = c.args.self.now in
     let m : RecEntry = get_or found c.in-Some.i zero_entry in
     let mine : IsLatest c.args.services now c.in-Some.i m = subst (λ l. IsLatest c.args.services l c.in-Some.i m) (c.deref.ensures.value ∙ c.self.view_is)
     (c.in-Some.ensures.latest m (slice_get-get_or found c.in-Some.i zero_entry c.in-Some.ensures.within)) in
-    c.in-Err.ensures.fuse honest now j d (strike_of c.args.services now c.in-Some.i j m d mine latest) every k lets alive (device_is_failed c.in-Err.trouble (sym c.from.ensures ∙ failed)) stays
+    fuse_of_member (Unit {0}) (Unit {0}) 2 (StrikeLeft now (struck j d now)) (g.D.Disk.state c.args.disk.now) (g.D.Disk.state c.strike.new.disk) c.in-Err.trouble c.from.result c.from.ensures
+    (c.in-Err.ensures.fuse honest now j d (strike_of c.args.services now c.in-Some.i j m d mine latest) every)
