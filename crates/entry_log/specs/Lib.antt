@@ -1,7 +1,9 @@
 pub mod Log
 pub mod Shape
 pub mod Quorum
+pub mod Batches
 pub mod Durable
 pub mod Index
 pub mod PlaceLaws
+pub mod Places
 pub mod TermLaws

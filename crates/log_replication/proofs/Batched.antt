@@ -7,7 +7,8 @@ use Rattle.std.proofs.lemmas.List.{take-map, drop-map, take-take, length-take-le
 use Rattle.std.proofs.lemmas.List.Sums.{sum_by_more, sum_by-take-le}
 use Rattle.entry_log.specs.Log.{Log, end_after}
 use Rattle.entry_log.specs.Shape.{EntryShape, Shape, lens_of, end_from, end_of}
-use Rattle.log_replication.specs.Batches.{segment_of, all_in, in_one_segment, is_batch, IsLongestBatch, FollowsBatch}
+use Rattle.entry_log.specs.Batches.{segment_of, all_in, in_one_segment, is_batch}
+use Rattle.log_replication.specs.Batches.{IsLongestBatch, FollowsBatch}
 use Rattle.log_replication.specs.Cuts.{appends_piece}
 
 both : (a b : Bool) → (a && b) ≡ true → (a ≡ true) × (b ≡ true)

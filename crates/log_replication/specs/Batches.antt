@@ -1,25 +1,9 @@
--- Which entries make one batch.
-use Rattle.std.specs.Prelude.{◌≡◌, ℕ, ◌≤◌, Bool, true, ◌&&◌, ◌||◌, [], ◌∷◌, ◌++◌, length, take, drop, sum, ◌-◌, ◌/◌, ◌==◌, nat_le}
-use Rattle.entry_log.specs.Log.{end_after, Log, IsPrefixOf, IsWritten, place}
-use Rattle.entry_log.specs.Shape.{Shape, lens_of, end_of, shape_of}
+-- The longest batch behind the first entries of a log.
+use Rattle.std.specs.Prelude.{◌≡◌, ℕ, ◌≤◌, true, ◌++◌, length, take, drop}
+use Rattle.entry_log.specs.Batches.{is_batch}
+use Rattle.entry_log.specs.Log.{IsPrefixOf, IsWritten, Log, place}
+use Rattle.entry_log.specs.Shape.{Shape, end_of, shape_of}
 use Rattle.log_replication.specs.Replication.{past}
-
--- the segment of 65,536 bytes in which an entry that ends here stands
-abbrev pub segment_of : ℕ → ℕ
-segment_of end = (end - 1) / 65536
-
--- all of these entries, written from place p, stand in this segment
-abbrev pub all_in : ℕ → ℕ → Shape → Bool
-all_in segment p [] = true
-all_in segment p (x ∷ xs) = (segment_of (end_after p x.len) == segment) && all_in segment (end_after p x.len) xs
-
-abbrev pub in_one_segment : ℕ → Shape → Bool
-in_one_segment p [] = true
-in_one_segment p (x ∷ xs) = all_in (segment_of (end_after p x.len)) (end_after p x.len) xs
-
--- Entries that are written from place p are one batch: at most 64 in one segment, with 8,192 bytes of events or a single entry.
-abbrev pub is_batch : ℕ → Shape → Bool
-is_batch p xs = nat_le (length xs) 64 && ((nat_le (length xs) 1 || nat_le (sum (lens_of xs)) 8192) && in_one_segment p xs)
 
 -- the first n entries of those behind the first `from` are the longest batch
 pub record IsLongestBatch (xs : Shape) (from n : ℕ) : Type 0 where

@@ -7,7 +7,7 @@ use Rattle.std.proofs.lemmas.Bool.Decides.{nat_tests}
 use Rattle.cl_base.specs.declared.entry.Entry.{Entry}
 use Rattle.entry_log.specs.Log.{Log, end_after, place, place_from, last, last_from, IsPrefixOf, IsWritten, RisesFrom, Rises}
 use Rattle.log_replication.specs.Replication.{IsAnchored, upto, kept, kept_from, past, answer_term, answer_end}
-use Rattle.log_replication.specs.Places.{end_after-past, place_from-up}
+use Rattle.entry_log.specs.Places.{end_after-past, place_from-up}
 use Rattle.log_replication.specs.Prefixes.{Leads, leads, is_prefix, Leads-trans, Leads-append, IsWritten-front, Leads-by_place, place-up, last_from-up, Rises-front}
 
 choice : {X : Type 0} (P : X → Type 0) (b : Bool) (x y : X) → (b ≡ true → P x) → (b ≡ false → P y) → P (if b then x else y)

@@ -1,5 +1,4 @@
 pub mod Replication
-pub mod Places
 pub mod Prefixes
 pub mod Cuts
 pub mod Commits

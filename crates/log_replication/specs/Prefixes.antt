@@ -4,7 +4,7 @@ use Rattle.std.specs.Prelude.{⊤}
 use Rattle.std.proofs.lemmas.Int.{ints}
 use Rattle.cl_base.specs.declared.entry.Entry.{Entry}
 use Rattle.entry_log.specs.Log.{Log, end_after, place_from, last_from, IsPrefixOf, IsWritten, RisesFrom}
-use Rattle.log_replication.specs.Places.{end_after-past, place_from-up}
+use Rattle.entry_log.specs.Places.{end_after-past, place_from-up}
 
 abbrev pub Leads : Log → Log → Type 0
 Leads [] ys = ⊤

@@ -1,16 +1,9 @@
 // How many entries go into one batch.
 ghost use Rattle.std.specs.Prelude.{◌≡◌, ◌≤◌, length};
-ghost use Rattle.log_replication.specs.Batches.{IsLongestBatch, segment_of, FollowsBatch};
+ghost use Rattle.log_replication.specs.Batches.{IsLongestBatch, FollowsBatch};
 
-use cl_base::limits::{BATCH_BYTES, BATCH_ENTRIES, SEGMENT_BYTES};
-use entry_log::LogIndex;
-
-/// The segment in which an entry stands that ends at this place (bytes).
-fn segment_of(end: u64) -> u64
-    ensures { result ≡ segment_of end }
-{
-    end.saturating_sub(1) / SEGMENT_BYTES
-}
+use cl_base::limits::{BATCH_BYTES, BATCH_ENTRIES};
+use entry_log::{LogIndex, segment_of};
 
 /// How many entries the batch from entry `from` has: as many as make one batch, none where the log
 /// has no such entry.

@@ -1,7 +1,7 @@
 use Rattle.std.proofs.Common.{◌≡◌, ◌+◌, ◌-◌, ◌^◌, ◌<◌, ◌≤◌, ◌∙◌, inl, inr, min, length, get_or, take, drop, sym, ap, subst, arith}
 use Rattle.std.proofs.lemmas.List.{length-drop}
 use Rattle.entry_log.specs.Shape.{lens_of, end_from, end_of}
-use Rattle.log_replication.specs.Batches.{segment_of}
+use Rattle.entry_log.specs.Batches.{segment_of}
 use Rattle.log_replication.proofs.Batched.{follows, is_longest, stops, Pieces, Pieces-one, Pieces-more, bytes-first, bytes-next, segment-first, segment-next}
 use Rattle.log_replication.proofs.batches.batch_len.Goals as goal
 use Rattle.log_replication.proofs.batches.batch_len.Goals.{then-bytes-gt-BATCH_BYTES-via-then-bytes-gt-BATCH_BYTES, then-bytes-gt-BATCH_BYTES-via-else-bytes-gt-BATCH_BYTES+then-next-segment}

@@ -1,0 +1,7 @@
+pub mod Measured
+pub mod Admitted
+pub mod Fitting
+pub mod OverLog
+pub mod Spoken
+pub mod Speech
+pub mod Standing

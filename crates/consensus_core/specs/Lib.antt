@@ -1,0 +1,9 @@
+pub mod Fit
+pub mod Rows
+pub mod Sendable
+pub mod Reign
+pub mod Sends
+pub mod Whole
+pub mod Member
+pub mod Standing
+pub mod OverLog
