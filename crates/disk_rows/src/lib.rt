@@ -1,4 +1,4 @@
-//! What a fuse or a call that fails, and then a crash, leave of a member's first two files, over a disk in memory.
+//! What a fuse or a call that fails, and then a crash, leave of a member's files, over a disk in memory.
 #![tactic(auto)]
 
 mod disks;

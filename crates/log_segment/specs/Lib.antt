@@ -1,0 +1,10 @@
+pub mod Segment
+pub mod Batch
+pub mod Kept
+pub mod Held
+pub mod Looked
+pub mod Found
+pub mod Spelled
+pub mod Whole
+pub mod Cuts
+pub mod Reads

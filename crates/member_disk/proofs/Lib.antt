@@ -1,0 +1,10 @@
+pub mod Standing
+pub mod Grown
+pub mod NewTerms
+pub mod Latest
+pub mod Looking
+pub mod Terms
+pub mod Mounts
+pub mod Compose
+pub mod Preludes
+pub mod Files

@@ -1,0 +1,74 @@
+-- A change in parts, each of which a crash leaves done or not done.
+use Rattle.std.specs.Prelude.{ℕ, ◌+◌, ◌-◌, ◌==◌, ◌&&◌, nat_lt, Bool, if◌then◌else◌, ℤ, List, [], ◌∷◌, ◌++◌, Option, Some, None, nat_le, Result, OnOk}
+use Rattle.cl_base.specs.Disk.{DiskState, LeavesOnly, left_by}
+use Rattle.cl_base.specs.Every.{takes}
+use Rattle.cl_base.specs.Fuse.{FuseEnds}
+use Rattle.cl_base.specs.Runs.{EachImage}
+use Rattle.cl_base.specs.declared.disk.Choice.{Choice}
+use Rattle.cl_base.specs.declared.fault.MemberFault.{MemberFault}
+use Rattle.cl_base.specs.declared.fault.MemberFault.TheVariants.{Device}
+use Rattle.node_state.specs.Node.{names_slot, raised}
+use Rattle.member_disk.specs.declared.durable.SnapshotHead.{SnapshotHead}
+use Rattle.member_disk.specs.Changes.{entry_for}
+use Rattle.recording_log.specs.Steps.{is_open}
+use Rattle.member_disk.specs.Kept.{Kept, Stands, Means, EachStands, StandsAmong}
+
+-- one part: its changing calls, the choices that leave it done where a fuse ended it at its last call, and what is kept
+-- once it is done
+pub record Part : Type 0 where
+  pub calls : ℕ
+  pub last : Choice → Bool
+  pub makes : Kept
+
+abbrev pub calls_of : List Part → ℕ
+calls_of [] = 0
+calls_of (p ∷ ps) = p.calls + calls_of ps
+
+-- what is kept after all the parts
+abbrev pub made : List Part → Kept → Kept
+made [] kept = kept
+made (p ∷ ps) kept = made ps p.makes
+
+-- what is kept before them, and after each
+abbrev pub stages : List Part → Kept → List Kept
+stages [] kept = kept ∷ []
+stages (p ∷ ps) kept = kept ∷ stages ps p.makes
+
+-- what a choice leaves where a fuse let k calls pass and ended them
+abbrev pub left_after : List Part → Kept → ℕ → Choice → Kept
+left_after [] kept k choice = kept
+left_after (p ∷ ps) kept k choice = if nat_lt k p.calls then (if (k == p.calls - 1) && p.last choice then p.makes else kept) else left_after ps p.makes (k - p.calls) choice
+
+abbrev pub LeftAfter : List Part → Kept → DiskState → ℕ → Type 0
+LeftAfter ps kept left k = (choice : Choice) → Stands (left_after ps kept k choice) (λ f. left_by choice (left.files f))
+
+-- What a change of these parts leaves of a disk each image of which stood for what was kept.
+pub record IsMade {D T : Type 0} (state : D → DiskState) (moment : D → ℕ) (left_since : D → ℕ → (ℕ → List ℕ) → Type 0) (ps : List Part) (kept : Kept) (old new : D) (result : Result T MemberFault) : Type 0 where
+  -- after Ok each image stands for what is kept then
+  pub done : OnOk result (EachStands (made ps kept) (state new).files)
+  -- after any answer, and at any moment of the call, each image stands for what was kept before or after a part
+  pub each : EachImage (StandsAmong (stages ps kept)) (state new).files
+  pub run : LeavesOnly moment left_since old new (StandsAmong (stages ps kept))
+  -- a fuse ends it exactly where it lets fewer calls pass, and then each choice leaves what the parts say
+  pub fuse : FuseEnds (calls_of ps) Device (LeftAfter ps kept) (state old) (state new) result
+
+-- a raise of the candidate term, with the member voted for
+abbrev pub raise_part : Kept → ℤ → Option ℕ → Part
+raise_part kept term voted = record { calls = 5; last = names_slot (1 - kept.node.slot); makes = record kept { node = raised kept.node term voted } }
+
+-- a snapshot's entry, whose file is on the disk
+abbrev pub entry_part : Kept → SnapshotHead → Part
+entry_part kept head = record { calls = 5; last = takes is_open; makes = record kept { entries = kept.entries ++ entry_for kept head ∷ [] } }
+
+-- a snapshot: its file in three calls, and then its entry
+abbrev pub put_part : Kept → SnapshotHead → Part
+put_part kept head = record { calls = 8; last = takes is_open; makes = record kept { entries = kept.entries ++ entry_for kept head ∷ [] } }
+
+-- what is kept after a change of these parts and a crash by a choice, by what the fuse lets pass
+abbrev pub by_fuse : List Part → Kept → Option ℕ → Choice → Kept
+by_fuse ps kept None choice = made ps kept
+by_fuse ps kept (Some k) choice = if nat_le (calls_of ps) k then made ps kept else left_after ps kept k choice
+
+-- a mount of n changing calls under a fuse: what each choice leaves means the same
+abbrev pub MountEnds : {T : Type 0} → ℕ → Kept → DiskState → DiskState → Result T MemberFault → Type 0
+MountEnds n kept old new result = FuseEnds n Device (λ left k. (choice : Choice) → Means kept (λ f. left_by choice (left.files f))) old new result
