@@ -1,0 +1,11 @@
+pub mod Reigning
+pub mod Steps
+pub mod Opened
+pub mod Offered
+pub mod Good
+pub mod Formed
+pub mod Turns
+pub mod Records
+pub mod Named
+pub mod Against
+pub mod Ran

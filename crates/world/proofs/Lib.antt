@@ -1,0 +1,9 @@
+pub mod LogRows
+pub mod Same
+pub mod Quorum
+pub mod Better
+pub mod Kept
+pub mod Effects
+pub mod Rows
+pub mod Snaps
+pub mod Runs

@@ -1,0 +1,4 @@
+pub mod Said
+pub mod World
+pub mod Safe
+pub mod Example
