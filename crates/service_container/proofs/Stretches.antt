@@ -1,13 +1,25 @@
 -- Consuming in two stretches. A poll that took one entry, and a poll that took none.
-use Rattle.std.proofs.Common.{◌≡◌, ℕ, ◌+◌, true, List, [], ◌∷◌, ◌++◌, length, append-nil, append_assoc, refl, sym, ◌∙◌, ap, arith}
+use Rattle.std.proofs.Common.{◌≡◌, ℕ, suc, ◌+◌, true, List, [], ◌∷◌, ◌++◌, length, append-nil, append_assoc, refl, sym, ◌∙◌, ap, arith}
 use Rattle.std.proofs.lemmas.List.{length-append}
 use Rattle.cl_base.specs.declared.entry.Entry.{Entry}
-use Rattle.service_api.specs.declared.output.Output.{Output}
 use Rattle.service_api.specs.declared.shipped.Shipped.{Shipped}
 use Rattle.service_api.specs.Service.{at_entry, state_from, numbered, outbox_from}
 use Rattle.service_api.specs.ServiceLaws.{state_twice, outbox_twice}
 use Rattle.commit_counter.specs.Ends.{Polled, taken_to}
-use Rattle.service_container.specs.Held.{Held, consumed_to, Applies, Polls, Consumes}
+use Rattle.service_container.specs.Records.{left_at, records_from}
+use Rattle.service_container.specs.Held.{Held, consumed_to, Applies, Consumes}
+
+further : (i n : ℕ) → i + 1 + n ≡ i + suc n
+further i n = omega arith
+
+-- what both stretches leave
+records_twice : (s : Shipped) (i : ℕ) (xs ys : List Entry) → records_from s i (xs ++ ys) ≡ records_from s i xs ++ records_from (state_from s i xs) (i + length xs) ys
+records_twice s i [] ys = ap (λ k. records_from s k ys) (omega arith)
+records_twice s i (x ∷ xs) ys =
+    ap (λ l. left_at i x (at_entry s i x).0 ++ l)
+    (records_twice (at_entry s i x).0 (i + 1) xs ys
+    ∙ ap (λ k. records_from (at_entry s i x).0 (i + 1) xs ++ records_from (state_from s i (x ∷ xs)) k ys) (further i (length xs)))
+    ∙ sym (append_assoc (left_at i x (at_entry s i x).0) (records_from (at_entry s i x).0 (i + 1) xs) (records_from (state_from s i (x ∷ xs)) (i + length (x ∷ xs)) ys))
 
 -- what is applied in two stretches is applied in one
 pub applies_twice : (c d e : Held) (xs ys : List Entry) → d.whole ≡ true → Applies c d xs → Applies d e ys → Applies c e (xs ++ ys)
@@ -16,6 +28,7 @@ applies_twice c d e xs ys whole h k =
     let at : (state : Shipped) → state ≡ state_from c.state (consumed_to c) xs → state_from state (consumed_to d) ys ≡ state_from c.state (consumed_to c) (xs ++ ys) =
     λ state is. (λ i. state_from (is i) (to i) ys) ∙ sym (state_twice c.state (consumed_to c) xs ys) in
     let out : outbox_from d.state (consumed_to d) ys ≡ outbox_from (state_from c.state (consumed_to c) xs) (consumed_to c + length xs) ys = λ i. outbox_from (h.state whole i) (to i) ys in
+    let left : records_from d.state (consumed_to d) ys ≡ records_from (state_from c.state (consumed_to c) xs) (consumed_to c + length xs) ys = λ i. records_from (h.state whole i) (to i) ys in
     record {
       service = k.service ∙ h.service;
       base = k.base ∙ h.base;
@@ -25,6 +38,10 @@ applies_twice c d e xs ys whole h k =
           k.outbox w ∙ (λ i. h.outbox whole i ++ out i)
           ∙ append_assoc c.outbox (outbox_from c.state (consumed_to c) xs) (outbox_from (state_from c.state (consumed_to c) xs) (consumed_to c + length xs) ys)
           ∙ ap (λ l. c.outbox ++ l) (sym (outbox_twice c.state (consumed_to c) xs ys));
+      records = λ w.
+          k.records w ∙ (λ i. h.records whole i ++ left i)
+          ∙ append_assoc c.records (records_from c.state (consumed_to c) xs) (records_from (state_from c.state (consumed_to c) xs) (consumed_to c + length xs) ys)
+          ∙ ap (λ l. c.records ++ l) (sym (records_twice c.state (consumed_to c) xs ys));
     }
 
 pub consumes_twice : (c : Held) (p : Polled) (d : Held) (q : Polled) (e : Held) (r : Polled) → d.whole ≡ true → Consumes c p d q → Consumes d q e r → Consumes c p e r
@@ -48,6 +65,7 @@ consumes_none c p q name start list = (
     inputs = sym (append-nil c.inputs);
     state = λ _. refl;
     outbox = λ _. sym (append-nil c.outbox);
+    records = λ _. sym (append-nil c.records);
   },
   record { name = name; start = start; list = list ∙ sym (append-nil p.list) },
 )
@@ -58,8 +76,9 @@ pub consumes_one : (c d : Held) (p q : Polled) (i : ℕ) (x : Entry) → i ≡ t
     → d.service ≡ c.service → d.base ≡ c.base → d.inputs ≡ c.inputs ++ x ∷ []
     → (d.whole ≡ true → d.state ≡ (at_entry c.state i x).0)
     → (d.whole ≡ true → d.outbox ≡ c.outbox ++ numbered i (at_entry c.state i x).1)
+    → (d.whole ≡ true → d.records ≡ c.records ++ left_at i x d.state)
     → Consumes c p d q
-consumes_one c d p q i x at place name start list service base inputs state outbox =
+consumes_one c d p q i x at place name start list service base inputs state outbox records =
     let to : i ≡ consumed_to c = at ∙ place in (
       x ∷ [],
       record {
@@ -68,6 +87,9 @@ consumes_one c d p q i x at place name start list service base inputs state outb
         inputs = inputs;
         state = λ w. state w ∙ ap (λ k. (at_entry c.state k x).0) to;
         outbox = λ w. outbox w ∙ ap (λ k. c.outbox ++ numbered k (at_entry c.state k x).1) to ∙ ap (λ l. c.outbox ++ l) (sym (append-nil (numbered (consumed_to c) (at_entry c.state (consumed_to c) x).1)));
+        records = λ w.
+            records w ∙ (λ j. c.records ++ left_at (to j) x ((state w ∙ ap (λ k. (at_entry c.state k x).0) to) j))
+            ∙ ap (λ l. c.records ++ l) (sym (append-nil (left_at (consumed_to c) x (at_entry c.state (consumed_to c) x).0)));
       },
       record { name = name; start = start; list = list },
     )

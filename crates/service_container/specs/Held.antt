@@ -5,14 +5,16 @@ use Rattle.service_api.specs.declared.output.Output.{Output}
 use Rattle.service_api.specs.declared.shipped.Shipped.{Shipped}
 use Rattle.service_api.specs.Service.{state_from, outbox_from}
 use Rattle.commit_counter.specs.Ends.{Polled}
+use Rattle.service_container.specs.Records.{records_from}
 
--- which service, the index at which it began, what it consumed since, its state, what came out, and whether all that it consumed was applied
+-- which service, the index at which it began, what it consumed since, its state, what came out since its outbox was emptied last, the records that it left, and whether all that it consumed was applied
 pub record Held : Type 0 where
   pub service : ℕ
   pub base : ℕ
   pub inputs : List Entry
   pub state : Shipped
   pub outbox : List (ℕ × Output)
+  pub records : List (ℕ × List ℕ)
   pub whole : Bool
 
 -- the index of the first entry that it has not consumed
@@ -21,7 +23,7 @@ consumed_to c = c.base + length c.inputs
 
 -- a container that has consumed nothing yet
 abbrev pub begun : ℕ → ℕ → Shipped → Held
-begun service base state = record { service = service; base = base; inputs = []; state = state; outbox = []; whole = true }
+begun service base state = record { service = service; base = base; inputs = []; state = state; outbox = []; records = []; whole = true }
 
 -- these entries were consumed, and applied where the container is still whole
 pub record Applies (c d : Held) (more : List Entry) : Type 0 where
@@ -30,6 +32,7 @@ pub record Applies (c d : Held) (more : List Entry) : Type 0 where
   pub inputs : d.inputs ≡ c.inputs ++ more
   pub state : d.whole ≡ true → d.state ≡ state_from c.state (consumed_to c) more
   pub outbox : d.whole ≡ true → d.outbox ≡ c.outbox ++ outbox_from c.state (consumed_to c) more
+  pub records : d.whole ≡ true → d.records ≡ c.records ++ records_from c.state (consumed_to c) more
 
 -- these entries were polled, of the same image
 pub record Polls (p q : Polled) (more : List Entry) : Type 0 where

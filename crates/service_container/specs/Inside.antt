@@ -3,4 +3,4 @@ use Rattle.service_container.specs.declared.container.Container.TheInside.{Insid
 use Rattle.service_container.specs.Held.{Held}
 
 abbrev pub held_of : Inside → Held
-held_of c = record { service = c.service; base = c.base; inputs = c.inputs.items; state = c.state; outbox = c.outbox.items; whole = c.whole }
+held_of c = record { service = c.service; base = c.base; inputs = c.inputs.items; state = c.works.state; outbox = c.works.outbox.items; records = c.works.records.items; whole = c.whole }

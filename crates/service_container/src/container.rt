@@ -1,32 +1,31 @@
 // One service, with what it consumed.
-ghost use Rattle.std.specs.Prelude.{◌≡◌, ◌+◌, ◌^◌, ◌<◌, true, [], ◌++◌, length, Ok, Err, IfOk, OnOk};
+ghost use Rattle.std.specs.Prelude.{◌≡◌, ◌^◌, ◌<◌, true, [], Ok, Err, Some, None, MatchOption, IfOk};
 ghost use Rattle.wire_prims.specs.declared.fault.Bad.{Bad};
 ghost use Rattle.commit_counter.specs.Ends.{taken_to, HasEnded};
-ghost use Rattle.service_api.specs.Service.{at_entry, numbered};
 ghost use Rattle.service_api.specs.Shipped.{first_of, restored_of};
 ghost use Rattle.service_container.specs.Held.{consumed_to, begun, Consumes};
+ghost use Rattle.service_container.specs.Records.{found_at};
 
 use crate::gate::Gate;
-use crate::outbox::put_out;
-use cl_base::{Entry, NoMemory};
+use crate::works::Works;
+use cl_base::{Bytes, Entry, NoMemory};
 use commit_counter::{Poll, Poller};
-use sbe_events::decode_event;
-use service_api::{Kind, Output, Outputs, Shipped};
+use service_api::{Kind, Output, Shipped};
 use std::alloc::Global;
 use std::marker::Model;
 use std::sync::Wait;
 use wire_prims::DecodeFault;
 
-/// One service, with what it consumed and what came out. Contracts see it as these. Where a call answers NoMemory an
-/// entry may have been consumed that was not applied; then the container is not whole, and is only given up.
+/// One service, with what it consumed, what came out and the records that it left. Contracts see it as these. Where a
+/// call answers NoMemory an entry may have been consumed that was not applied; then the container is not whole, and is
+/// only given up.
 #[derive(Drop)]
 pub struct Container {
     alloc: Global,
     service: u8,
     base: u64,
     inputs: Vec<Entry>,
-    state: Shipped,
-    outbox: Vec<(u64, Output)>,
+    works: Works,
     whole: bool,
 }
 
@@ -62,27 +61,6 @@ enum Step {
     Waits,
     Ended,
     NoMemory,
-}
-
-// Applies the entry at an index to a service, and puts what comes out behind its outbox.
-fn apply_entry(
-    alloc: Global,
-    state: &mut Shipped,
-    outbox: &mut Vec<(u64, Output)>,
-    index: u64,
-    entry: &Entry,
-) -> Result<(), NoMemory>
-    ensures state { OnOk result (state.new ≡ (at_entry state.old index entry.now).0) }
-    ensures outbox { OnOk result (outbox.new.items ≡ outbox.old.items ++ numbered index (at_entry state.old index entry.now).1) }
-{
-    let e = match decode_event(alloc, entry.bytes.as_slice()) {
-        Ok(e) => e,
-        Err(DecodeFault::Bad(_)) => return Ok(()),
-        Err(DecodeFault::NoMemory) => return Err(NoMemory),
-    };
-    let mut outputs = Outputs::new(alloc);
-    state.apply(index, &e, &mut outputs)?;
-    put_out(outbox, index, outputs)
 }
 
 impl Container {
@@ -123,8 +101,7 @@ impl Container {
             service,
             base,
             inputs: Vec::new(alloc),
-            state,
-            outbox: Vec::new(alloc),
+            works: Works::of(alloc, state),
             whole: true,
         }
     }
@@ -143,18 +120,33 @@ impl Container {
         self.inputs.as_slice()
     }
 
-    /// What came out, each with the index of its entry, in order.
+    /// What came out since its outbox was emptied last, each with the index of its entry, in order.
     pub fn outbox(&self) -> &[(u64, Output)]
         ensures { result.now ≡ self.now.outbox }
     {
-        self.outbox.as_slice()
+        self.works.outbox.as_slice()
+    }
+
+    /// Empties its outbox.
+    pub fn forget_outbox(&mut self)
+        ensures { self.new ≡ record self.old { outbox = [] } }
+    {
+        self.works.outbox.clear();
     }
 
     /// The service as it stands.
     pub fn state(&self) -> &Shipped
         ensures { result.now ≡ self.now.state }
     {
-        &self.state
+        &self.works.state
+    }
+
+    /// The service's records as they were after the entry at this index, a snapshot action that it consumed. None for
+    /// every other index.
+    pub fn snapshot(&self, index: u64) -> Option<&Bytes>
+        ensures { MatchOption result (found_at index self.now.records ≡ None) (λ b. found_at index self.now.records ≡ Some b.now) }
+    {
+        self.works.records_at(index)
     }
 
     /// The index of the first entry that it has not consumed.
@@ -181,13 +173,7 @@ impl Container {
         match poller.poll_one(rt) {
             Poll::Took { index, entry } => {
                 gate.pass(self.service, index);
-                let applied = apply_entry(
-                    self.alloc,
-                    &mut self.state,
-                    &mut self.outbox,
-                    index,
-                    &entry,
-                );
+                let applied = self.works.apply(self.alloc, index, &entry);
                 self.inputs.push_reserved(entry);
                 match applied {
                     Ok(()) => Step::Went,

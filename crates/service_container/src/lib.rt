@@ -5,8 +5,7 @@
 mod container;
 mod gate;
 mod outbox;
-#[cfg(test)]
-mod tests;
+mod works;
 
 pub use container::{Container, ServeEnd, Served};
 pub use gate::{Gate, NoGate};

@@ -1,0 +1,8 @@
+pub mod Pairs
+pub mod Feeds
+pub mod Phases
+pub mod Begins
+pub mod Stages
+pub mod Inside
+pub mod Hands
+pub mod Threads

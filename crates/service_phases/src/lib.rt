@@ -1,0 +1,17 @@
+//! What a member has of its services: the containers between phases, and while a phase runs what it lent and how each
+//! image began. Feeding the images, and threads for the containers.
+#![tactic(auto)]
+
+mod close;
+mod feeding;
+mod finishing;
+mod forget;
+mod hand;
+mod images;
+mod lend;
+mod services;
+
+pub use feeding::{feed_each, have_pushed, publish_each, wanted};
+pub use finishing::{finish_each, have_ended, have_published, have_taken};
+pub use hand::{Back, Hand, Serves, start, take_back, work};
+pub use services::Services;
