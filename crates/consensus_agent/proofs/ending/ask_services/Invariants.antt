@@ -1,0 +1,5 @@
+use Rattle.std.proofs.Common.{◌≡◌}
+use Rattle.consensus_agent.proofs.ending.ask_services.Given as goal
+
+abbrev pub invariant-loop-container : goal.invariant-loop-container
+invariant-loop-container l = l.module.consumed ≡ l.initial.module.consumed

@@ -1,0 +1,6 @@
+pub mod Reads
+pub mod Rows
+pub mod Delivered
+pub mod Phases
+pub mod Starts
+pub mod Stands

@@ -1,0 +1,48 @@
+-- What a row makes of a member.
+use Rattle.std.specs.Prelude.{◌≡◌, ℕ, List, ◌++◌, take, All}
+use Rattle.cl_base.specs.declared.entry.Entry.{Entry}
+use Rattle.entry_log.specs.Log.{Log}
+use Rattle.entry_log.specs.Shape.{Shape, shape_of}
+use Rattle.node_state.specs.Node.{Node, raised}
+use Rattle.member_disk.specs.Kept.{Kept}
+use Rattle.consensus_core.specs.declared.change.Change.{Change}
+use Rattle.consensus_core.specs.declared.change.Change.TheVariants as changes
+use Rattle.consensus_core.specs.declared.row.Row.{Row}
+use Rattle.consensus_core.specs.declared.values.Values.{Values}
+use Rattle.consensus_core.specs.Fit.{Held, held_by}
+use Rattle.consensus_core.specs.Whole.{packets_sent, wanted}
+use Rattle.consensus_core.specs.Reign.{does_duty}
+use Rattle.sbe_consensus.specs.declared.packet.Outgoing.{Outgoing}
+use Rattle.consensus_agent.specs.Reads.{AreRead}
+use Rattle.sbe_events.specs.Spelling.{HasSpelling as IsEvent}
+use Rattle.sbe_events.specs.declared.event.Event.{Event}
+
+-- the node and the log after a change of the disk
+pub record IsKept (n : Node) (l : Log) (k : Kept) : Type 0 where
+  pub node : k.node ≡ n
+  pub log : k.log ≡ l
+
+-- a change is on the disk
+abbrev pub Made : Change → Kept → Kept → Type 0
+Made changes.Nothing a b = IsKept a.node a.log b
+Made (changes.Raise term voted) a b = IsKept (raised a.node term voted) a.log b
+Made (changes.Append entries) a b = IsKept a.node (a.log ++ entries) b
+Made (changes.Cut n) a b = IsKept a.node (take n a.log) b
+
+-- the packets of what was to be sent over a log of this shape, with the entries that were read of the log for its batches
+pub record IsSpoken (c : Held) (xs : Shape) (out : List Outgoing) : Type 0 where
+  pub read : List Entry
+  pub entries : AreRead (wanted c xs) read
+  pub packets : out ≡ packets_sent c xs read
+
+-- the row was run: its change is on the disk, its values are the member's, and then these packets go out
+pub record RowRan (row : Row) (a b : Kept) (v : Values) (out : List Outgoing) : Type 0 where
+  pub change : Made row.change a b
+  pub values : v ≡ row.values
+  pub sent : IsSpoken (held_by row) (shape_of b.log) out
+
+-- a duty's row was run, with some due events
+pub record RanDuty (now : ℕ) (old : Values) (a b : Kept) (new : Values) (out : List Outgoing) : Type 0 where
+  pub due : List Event
+  pub spelled : All IsEvent due
+  pub ran : RowRan (does_duty old (shape_of a.log) due now) a b new out

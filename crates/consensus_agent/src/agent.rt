@@ -1,0 +1,151 @@
+// One member as a whole.
+ghost use Rattle.std.specs.Prelude.{◌≡◌, ◌≤◌, ◌^◌};
+
+use cl_base::{Disk, Entry};
+use commit_counter::Role;
+use consensus_core::{Core, State};
+use entry_log::LogIndex;
+use member_disk::{Durable, MemberDisk};
+use member_module::MemberModule;
+use service_phases::Services;
+use std::alloc::Global;
+
+/// One running member: its disk, its part in the agreement, the module and the services.
+#[derive(Drop)]
+pub struct Agent<D: Disk> {
+    pub(crate) alloc: Global,
+    pub(crate) core: Core,
+    pub(crate) disk: MemberDisk<D>,
+    pub(crate) module: MemberModule,
+    pub(crate) services: Services,
+    /// How many services there are.
+    pub(crate) count: u8,
+    /// The entries of the snapshot that the services began with.
+    pub(crate) base: u64,
+    /// What the member was as the phase began.
+    pub(crate) role: Role,
+    /// Since the phase began the log was cut, or the member became ready to lead.
+    pub(crate) over: bool,
+    ghost bounded: { base ≤ 2 ^ 62 },
+}
+
+impl<D: Disk> Agent<D> {
+    ghost use Rattle.entry_log.specs.Shape.{shape_of};
+
+    /// Where it stands in the agreement.
+    pub fn state(&self) -> State
+        ensures { result ≡ self.now.core.values.election.state }
+    {
+        self.core.state()
+    }
+
+    /// Whether it leads, and its term's first entry is in its log.
+    pub fn is_ready(&self) -> bool {
+        matches!(self.core.state(), State::LeaderReady)
+    }
+
+    /// The leadership term that it is in, -1 for none.
+    pub fn term(&self) -> i64
+        ensures { result ≡ self.now.core.values.election.term }
+    {
+        self.core.term()
+    }
+
+    /// The leader that it knows, -1 for none.
+    pub fn leader(&self) -> i32 {
+        self.core.leader()
+    }
+
+    /// How many entries are committed.
+    pub fn commit(&self) -> u64
+        ensures { result ≡ self.now.core.values.rest.commit }
+    {
+        self.core.commit()
+    }
+
+    /// How many entries the module consumed.
+    pub fn consumed(&self) -> u64
+        ensures value { result ≡ self.now.module.consumed }
+        ensures bound { result ≤ 2 ^ 62 }
+    {
+        self.module.consumed()
+    }
+
+    /// The log's entries past those that the module consumed.
+    pub fn ahead(&self) -> &[Entry]
+        ensures { result.now ≡ self.now.module.ahead.entries }
+    {
+        self.module.ahead()
+    }
+
+    /// The entries of the snapshot that the services began with, 0 without one.
+    pub fn base(&self) -> u64
+        ensures value { result ≡ self.now.base }
+        ensures bound { result ≤ 2 ^ 62 }
+    {
+        self.base
+    }
+
+    /// How many services there are.
+    pub fn services(&self) -> u8 {
+        self.count
+    }
+
+    /// The entries that a service consumed since the mount, in order. No phase runs.
+    pub fn inputs(&self, service: u8) -> &[Entry] {
+        match self.services.containers().get(service as usize) {
+            Some(container) => container.inputs(),
+            None => &[],
+        }
+    }
+
+    /// What its disk keeps.
+    pub fn durable(&self) -> &Durable
+        ensures { result.now ≡ self.now.disk.kept }
+    {
+        self.disk.durable()
+    }
+
+    /// The index of its log.
+    pub fn index(&self) -> &LogIndex
+        ensures { result.now ≡ shape_of self.now.disk.kept.log }
+    {
+        self.disk.index()
+    }
+
+    /// How often a call of its disk failed.
+    pub fn faults(&self) -> u64
+        ensures { result ≡ D.fault_count self.now.disk.disk }
+    {
+        self.disk.faults()
+    }
+
+    /// Lets so many changing calls of its disk pass.
+    pub fn fuse(&mut self, calls: u64)
+        ensures core { self.new.core ≡ self.old.core }
+        ensures module { self.new.module ≡ self.old.module }
+        ensures services { self.new.services ≡ self.old.services }
+        ensures over { self.new.over ≡ self.old.over }
+        ensures kept { self.new.disk.kept ≡ self.old.disk.kept }
+    {
+        self.disk.fuse(calls);
+    }
+
+    /// Gives the disk back as it stands; all else is gone.
+    pub fn stop(self) -> D
+        ensures { result ≡ self.disk.disk }
+    {
+        let Agent {
+            alloc: _,
+            core: _,
+            disk,
+            module: _,
+            services: _,
+            count: _,
+            base: _,
+            role: _,
+            over: _,
+        } = self;
+        disk.into_disk()
+    }
+}

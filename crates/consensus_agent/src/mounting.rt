@@ -1,0 +1,244 @@
+// How a member starts from its disk.
+ghost use Rattle.std.specs.Prelude.{◌≡◌, true, ◌<◌, ◌≤◌, ◌^◌, pos, negsuc, ◌≤ℤ◌, length, unwrap_or, IfOk};
+ghost use Rattle.member_disk.specs.Changes.{HasSome};
+ghost use Rattle.snapshot_pieces.specs.Pieces.{IsOrigin};
+ghost use Rattle.service_phases.specs.Pairs.{Each};
+ghost use Rattle.service_phases.specs.Phases.{IsAt};
+ghost use Rattle.service_phases.specs.Stages.{IsIdle};
+ghost use Rattle.consensus_agent.specs.Phases.{stage};
+ghost use Rattle.consensus_agent.specs.Starts.{IsStart};
+
+use crate::agent::Agent;
+use cl_base::limits::LOG_LIMIT;
+use cl_base::{Disk, MemberFault, NoMemory};
+use commit_counter::Role;
+use consensus_core::Core;
+use member_disk::{Durable, MemberDisk, SetEntry};
+use member_module::MemberModule;
+use module_state::ModuleState;
+use recording_log::SnapshotAt;
+use service_api::Kind;
+use service_container::Container;
+use service_phases::Services;
+use snapshot_pieces::{Origin, Source, restore_module, restore_service};
+use std::alloc::Global;
+
+/// The number of the file of the snapshot with recording id 0.
+const FIRST_SNAPSHOT: u64 = 258;
+
+/// What a member starts from besides its disk.
+#[derive(Drop)]
+struct Start {
+    base: u64,
+    module: MemberModule,
+    containers: Vec<Container>,
+}
+
+/// The file that an entry of the latest set was read from, and what it must be of.
+fn source_of(set: &SetEntry, service: i32, entries: Option<u64>) -> Source
+    requires { set.now.recording < 1024 }
+    ensures origin { result.origin ≡ record { service = service; position = set.now.position; term = set.now.term } }
+    ensures entries { result.entries ≡ entries }
+{
+    Source {
+        file: (FIRST_SNAPSHOT + set.recording) as u32,
+        origin: Origin {
+            service,
+            position: set.position,
+            term: set.term,
+        },
+        entries,
+    }
+}
+
+/// Whether there is a valid set.
+#[tactic(auto, using(crate::proofs::Sets::some_set))]
+fn has_set(durable: &Durable) -> bool
+    ensures { result ≡ true → HasSome durable.now.services durable.now.entries }
+{
+    !durable.sets().is_empty()
+}
+
+/// The snapshot of a service, or of the module (-1), in the latest valid set.
+fn set_of<D: Disk>(disk: &mut MemberDisk<D>, service: i32) -> Result<SetEntry, MemberFault>
+    requires low { negsuc 0 ≤ℤ service }
+    requires high { service ≤ℤ pos 2 }
+    ensures kept { disk.new.kept ≡ disk.old.kept }
+    ensures recording { IfOk result (λ e. e.recording < 1024) }
+    ensures origin { IfOk result (λ e. IsOrigin (record { service = service; position = e.position; term = e.term })) }
+{
+    let is_there = service < disk.durable().services() as i32;
+    if !disk.is_whole() || !has_set(disk.durable()) || !is_there {
+        return Err(MemberFault::NoMemory);
+    }
+    disk.set_entry(service)
+}
+
+#[tactic(auto, using(crate::proofs::Phasing::each_push, crate::proofs::Phasing::begun_at))]
+/// The services before any entry.
+fn fresh_services(alloc: Global, kinds: &[Kind]) -> Result<Vec<Container>, NoMemory>
+    requires { length kinds.now ≤ 3 }
+    ensures { IfOk result (λ cs. Each (IsAt 0) cs.items) }
+{
+    let mut containers = Vec::new(alloc);
+    for (service, kind) in kinds.iter().enumerate() {
+        let container = Container::fresh(alloc, *kind, service as u8)?;
+        if containers.push(container).is_err() {
+            return Err(NoMemory);
+        }
+    }
+    Ok(containers)
+}
+
+/// The services and the module before any entry.
+fn fresh(alloc: Global, kinds: &[Kind]) -> Result<Start, NoMemory>
+    requires { length kinds.now ≤ 3 }
+    ensures { IfOk result IsStart }
+{
+    let containers = fresh_services(alloc, kinds)?;
+    let state = ModuleState::fresh(alloc, kinds.len() as u8)?;
+    Ok(Start {
+        base: 0,
+        module: MemberModule::new(alloc, state, 0),
+        containers,
+    })
+}
+
+#[tactic(auto, using(crate::proofs::Phasing::each_push, crate::proofs::Phasing::begun_at))]
+/// The services of the latest valid set of snapshots, which go on at an entry.
+fn restored_services<D: Disk>(
+    alloc: Global,
+    kinds: &[Kind],
+    disk: &mut MemberDisk<D>,
+    entries: Option<u64>,
+) -> Result<Vec<Container>, MemberFault>
+    requires { length kinds.now ≤ 3 }
+    ensures { IfOk result (λ cs. Each (IsAt (unwrap_or entries 0)) cs.items) }
+{
+    let mut containers = Vec::new(alloc);
+    for (service, kind) in kinds.iter().enumerate() {
+        let set = set_of(disk, service as i32)?;
+        let source = source_of(&set, service as i32, entries);
+        let pieces = set.pieces.as_slice();
+        let container = restore_service(alloc, *kind, service as u8, &source, pieces)?;
+        if containers.push(container).is_err() {
+            return Err(MemberFault::NoMemory);
+        }
+    }
+    Ok(containers)
+}
+
+/// The services and the module of the latest valid set of snapshots.
+fn restored<D: Disk>(
+    alloc: Global,
+    kinds: &[Kind],
+    disk: &mut MemberDisk<D>,
+    latest: SnapshotAt,
+) -> Result<Start, MemberFault>
+    requires { length kinds.now ≤ 3 }
+    ensures { IfOk result IsStart }
+{
+    let count = disk.index().entries_to(latest.position);
+    let ends = count > 0 && disk.index().end_at(count) == latest.position;
+    let entries = if ends { Some(count) } else { None };
+    let base = entries.unwrap_or(0);
+    if base > LOG_LIMIT {
+        return Err(MemberFault::NoMemory);
+    }
+    let containers = restored_services(alloc, kinds, disk, entries)?;
+    let set = set_of(disk, -1)?;
+    let source = source_of(&set, -1, entries);
+    let state = restore_module(alloc, kinds.len() as u8, &source, set.pieces.as_slice())?;
+    Ok(Start {
+        base,
+        module: MemberModule::new(alloc, state, base),
+        containers,
+    })
+}
+
+/// The module has the log's entries past what it consumed ahead.
+#[tactic(auto, using(crate::proofs::Entries::length_shape))]
+fn read_ahead<D: Disk>(
+    disk: &mut MemberDisk<D>,
+    module: &mut MemberModule,
+) -> Result<(), MemberFault>
+    ensures { module.new.consumed ≡ module.old.consumed }
+{
+    for index in module.consumed()..disk.index().entries() {
+        if !disk.is_whole() || index >= disk.index().entries() {
+            return Err(MemberFault::NoMemory);
+        }
+        let entry = disk.read(index)?;
+        if module.append(entry).is_err() {
+            return Err(MemberFault::NoMemory);
+        }
+    }
+    Ok(())
+}
+
+/// What a member starts from, with the log's entries past the snapshot.
+fn begin<D: Disk>(
+    alloc: Global,
+    kinds: &[Kind],
+    disk: &mut MemberDisk<D>,
+) -> Result<Start, MemberFault>
+    requires { length kinds.now ≤ 3 }
+    ensures { IfOk result IsStart }
+{
+    let latest = match disk.durable().sets().last() {
+        Some(latest) => Some(*latest),
+        None => None,
+    };
+    let mut start = match latest {
+        Some(latest) => restored(alloc, kinds, disk, latest)?,
+        None => match fresh(alloc, kinds) {
+            Ok(start) => start,
+            Err(NoMemory) => return Err(MemberFault::NoMemory),
+        },
+    };
+    read_ahead(disk, &mut start.module)?;
+    Ok(start)
+}
+
+impl<D: Disk> Agent<D> {
+    /// Starts a member (row P1) from its disk alone: `id` of so many members, with one service of each kind. The
+    /// services and the module go on from the latest valid set of snapshots. Damaged names the first wrong place. The
+    /// disk comes back with an error.
+    pub fn mount(
+        alloc: Global,
+        id: u8,
+        members: u8,
+        kinds: &[Kind],
+        disk: D,
+        _now: u64,
+    ) -> Result<Agent<D>, (D, MemberFault)>
+        requires members { members ≤ 5 }
+        requires id { id < members }
+        requires some { 1 ≤ length kinds.now }
+        requires few { length kinds.now ≤ 3 }
+        ensures idle { IfOk result (λ a. IsIdle (stage a.services a.module a.core a.over)) }
+        ensures based { IfOk result (λ a. a.module.consumed ≡ a.base) }
+    {
+        let count = kinds.len() as u8;
+        let mut disk = MemberDisk::mount(alloc, disk, count)?;
+        match begin(alloc, kinds, &mut disk) {
+            Ok(start) => {
+                let durable = disk.durable();
+                let candidate = durable.candidate_term();
+                let voted = durable.voted();
+                Ok(Agent {
+                    alloc,
+                    core: Core::new(alloc, id, members, candidate, voted, start.base),
+                    disk,
+                    module: start.module,
+                    services: Services::new(alloc, start.containers),
+                    count,
+                    base: start.base,
+                    role: Role::Follower,
+                    over: false,
+                })
+            }
+            Err(fault) => Err((disk.into_disk(), fault)),
+        }
+    }
+}

@@ -1,0 +1,164 @@
+// The phases of a member, in which its services consume what is committed.
+ghost use Rattle.std.specs.Prelude.{◌≡◌, true, Ok, ◌+◌, ◌<◌, ◌≤◌, ◌^◌, [], length, IfOk, OnErr, OnOk};
+ghost use Rattle.commit_counter.specs.Ends.{fed_to};
+ghost use Rattle.service_phases.specs.Pairs.{Each, Each2};
+ghost use Rattle.service_phases.specs.Feeds.{FedOn, HasCommit, IsFed};
+ghost use Rattle.service_phases.specs.Phases.{Began, Closed, HasEndedWell, IsAt, containers};
+ghost use Rattle.service_phases.specs.Stages.{Begins, HasRun, IsFeeding, IsIdle, forgot};
+ghost use Rattle.consensus_agent.specs.Phases.{stage};
+
+use crate::agent::Agent;
+use crate::fault::AgentFault;
+use cl_base::limits::LOG_LIMIT;
+use cl_base::{Disk, Entry, List, NoMemory};
+use commit_counter::{Feed, Role};
+use egress::Sent;
+use service_container::Served;
+use service_phases::{Services, feed_each, publish_each};
+use std::sync::Wait;
+
+/// How far the services were fed.
+#[derive(Clone, Copy, Debug, PartialEq, Eq)]
+pub enum Fed {
+    /// Every feed holds the log to its end.
+    All,
+    /// A feed's queue was full.
+    Full,
+    /// The phase is over: since it began the log was cut, or the member became ready to lead. Nothing was pushed or
+    /// published.
+    Over,
+}
+
+/// Feeds each service with these entries of the log, the first of which has the index `first`, and publishes what is
+/// committed. True where each queue took all of them.
+#[tactic(auto, using(crate::proofs::Phasing::all_fed, crate::proofs::Phasing::all_reached, crate::proofs::Phasing::all_running))]
+fn feed_all<R: Wait>(
+    rt: &R,
+    feeds: &mut [Feed],
+    first: u64,
+    entries: &[Entry],
+    commit: u64,
+) -> Result<bool, NoMemory>
+    requires fed { Each (IsFed first commit) feeds.old }
+    requires bound { first + length entries.now < 2 ^ 62 }
+    requires commit { commit < 2 ^ 62 }
+    ensures fed { Each (IsFed first commit) feeds.new }
+    ensures on { Each2 (FedOn commit) feeds.old feeds.new }
+{
+    let all = feed_each(rt, feeds, first, entries);
+    publish_each(feeds, commit);
+    all
+}
+
+/// Begins an image for each service, whose outbox is emptied.
+#[tactic(auto, using(crate::proofs::Phasing::all_ready))]
+fn begin_all(
+    services: &mut Services,
+    role: Role,
+    first: u64,
+) -> Result<(List<Feed>, List<Served>), NoMemory>
+    requires kept { Each (IsAt first) services.old.kept }
+    requires bound { first < 2 ^ 62 }
+    ensures { IfOk result (λ p. Began (forgot services.old) services.new p.0 p.1) }
+{
+    services.forget_outboxes();
+    services.begin(role)
+}
+
+impl<D: Disk> Agent<D> {
+    /// Whether something is committed that wasn't consumed. No phase runs.
+    pub fn is_due(&self) -> bool {
+        self.module.consumed() < self.core.commit()
+    }
+
+    /// Begins a phase: an image for each service, from what it consumed on. No phase runs.
+    pub fn phase_begin(&mut self) -> Result<(List<Feed>, List<Served>), NoMemory>
+        requires { IsIdle (stage self.old.services self.old.module self.old.core self.old.over) }
+        ensures begun { IfOk result (λ p. Begins (stage self.old.services self.old.module self.old.core self.old.over) (stage self.new.services self.new.module self.new.core self.new.over) p.0 p.1) }
+    {
+        let role = if self.is_ready() {
+            Role::Leader {
+                term: self.core.term(),
+            }
+        } else {
+            Role::Follower
+        };
+        let begun = begin_all(&mut self.services, role, self.module.consumed())?;
+        self.role = role;
+        self.over = false;
+        Ok(begun)
+    }
+
+    /// Pushes the log to each feed of the phase, and publishes what is committed.
+    #[tactic(auto, using(crate::proofs::Phasing::all_same))]
+    pub fn feed<R: Wait>(&self, rt: &R, feeds: &mut List<Feed>) -> Result<Fed, AgentFault>
+        requires phase { IsFeeding (stage self.now.services self.now.module self.now.core self.now.over) feeds.old }
+        ensures phase { IsFeeding (stage self.now.services self.now.module self.now.core self.now.over) feeds.new }
+        ensures on { Each2 (FedOn self.now.core.values.rest.commit) feeds.old feeds.new }
+        ensures over { result ≡ Ok Fed.Over → self.now.over ≡ true }
+    {
+        if self.over {
+            return Ok(Fed::Over);
+        }
+        let first = self.module.consumed();
+        let ahead = self.module.ahead();
+        if first > LOG_LIMIT || ahead.len() as u64 > LOG_LIMIT {
+            return Err(AgentFault::NoMemory);
+        }
+        let commit = self.core.commit();
+        let all = feed_all(rt, feeds.as_mut_slice(), first, ahead, commit)?;
+        Ok(if all { Fed::All } else { Fed::Full })
+    }
+
+    /// Closes the images of a phase whose services all ended, and begins new ones of the same role at what was taken.
+    pub fn next_images<R: Wait>(
+        &mut self,
+        rt: &R,
+        feeds: List<Feed>,
+        served: List<Served>,
+    ) -> Result<(List<Feed>, List<Served>), NoMemory>
+        requires run { HasRun (stage self.old.services self.old.module self.old.core self.old.over) feeds served }
+        requires kept { self.old.services.kept ≡ [] }
+        requires ended { Each HasEndedWell served }
+        requires bound { Each (λ f. f.commit < 2 ^ 62) feeds }
+        ensures closed { Each2 Closed feeds served }
+        ensures began { IfOk result (λ p. Began (record { kept = containers served; lent = []; begun = [] }) self.new.services p.0 p.1) }
+        ensures module { self.new.module ≡ self.old.module }
+        ensures core { self.new.core ≡ self.old.core }
+        ensures over { self.new.over ≡ self.old.over }
+        ensures none { OnErr result (self.new.services.lent ≡ []) }
+    {
+        self.services.next_images(rt, self.role, feeds, served)
+    }
+
+    /// Ends a phase whose feeds were finished at the commit and whose services all ended: the module takes what is
+    /// committed, snapshots are written, and what the phase's entries owe to clients is given.
+    pub fn phase_end<R: Wait>(
+        &mut self,
+        rt: &R,
+        feeds: List<Feed>,
+        served: List<Served>,
+    ) -> Result<List<Sent>, AgentFault>
+        requires run { HasRun (stage self.old.services self.old.module self.old.core self.old.over) feeds served }
+        requires kept { self.old.services.kept ≡ [] }
+        requires commit { Each (HasCommit self.old.core.values.rest.commit) feeds }
+        requires ended { Each HasEndedWell served }
+        requires place { self.old.module.consumed ≤ self.old.core.values.rest.commit }
+        requires bound { self.old.core.values.rest.commit < 2 ^ 62 }
+        ensures idle { OnOk result (IsIdle (stage self.new.services self.new.module self.new.core self.new.over)) }
+        ensures kept { self.new.services ≡ record { kept = containers served; lent = []; begun = [] } }
+        ensures core { self.new.core ≡ self.old.core }
+    {
+        self.services.end(rt, feeds, served);
+        let sent = self.consume()?;
+        Ok(sent)
+    }
+
+    /// Ends a phase of a member that is then stopped: the services are kept for `inputs`, and nothing else is done.
+    pub fn phase_drop<R: Wait>(&mut self, rt: &R, feeds: List<Feed>, served: List<Served>)
+        requires run { HasRun (stage self.old.services self.old.module self.old.core self.old.over) feeds served }
+        ensures lent { self.new.services.lent ≡ [] }
+    {
+        self.services.end(rt, feeds, served);
+    }
+}
