@@ -2,7 +2,7 @@
 #![tactic(auto)]
 
 use cl_base::{ReadSource, WriteSink};
-use cluster_run::{Status, cluster_main};
+use echo_run::{Status, cluster_main};
 use std::env;
 use std::io::ErrorKind;
 use std::process::ExitCode;

@@ -1,5 +1,0 @@
-use Rattle.cluster_run.proofs.Fronts.{consumes_front}
-use Rattle.cluster_run.proofs.laws.consumes_a_front.Goals as goal
-
-pub returns : goal.returns
-returns c = consumes_front

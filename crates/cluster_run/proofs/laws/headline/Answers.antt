@@ -1,5 +1,0 @@
-use Rattle.cluster_run.proofs.HeadlineSteps.{headline_holds}
-use Rattle.cluster_run.proofs.laws.headline.Goals as goal
-
-pub returns : goal.returns
-returns c = headline_holds

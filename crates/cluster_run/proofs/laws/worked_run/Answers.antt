@@ -1,5 +1,0 @@
-use Rattle.cluster_run.proofs.Working.{text_there}
-use Rattle.cluster_run.proofs.laws.worked_run.Goals as goal
-
-pub returns : goal.returns
-returns c = text_there

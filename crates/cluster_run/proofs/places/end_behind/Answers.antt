@@ -1,5 +1,0 @@
-use Rattle.cluster_run.proofs.Lengths.{spelled_short}
-use Rattle.cluster_run.proofs.places.end_behind.Goals as goal
-
-pub event_len-requires : goal.event_len-requires
-event_len-requires c = spelled_short c.args.event.now c.requires.spelled

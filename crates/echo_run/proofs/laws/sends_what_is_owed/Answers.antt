@@ -1,0 +1,5 @@
+use Rattle.echo_run.proofs.HeadlineSteps.{headline_holds}
+use Rattle.echo_run.proofs.laws.sends_what_is_owed.Goals as goal
+
+pub returns : goal.returns
+returns c = λ orders. (headline_holds orders).owed

@@ -1,0 +1,4 @@
+pub mod Pieces
+pub mod Text
+pub mod Orders
+pub mod Written
