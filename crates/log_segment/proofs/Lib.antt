@@ -23,3 +23,4 @@ pub mod EntryLemmas
 pub mod FoundLemmas
 pub mod MountLemmas
 pub mod TermLemmas
+pub mod ApartLemmas

@@ -8,6 +8,7 @@ ghost use Rattle.cl_base.specs.Gated.{open_byte, shut};
 ghost use Rattle.entry_log.specs.Log.{Log};
 ghost use Rattle.log_segment.specs.Segment.{SegmentIs};
 ghost use Rattle.log_segment.specs.Batch.{IsAppend, SegmentIsOne, AppendLeft};
+ghost use Rattle.log_segment.specs.Whole.{IsApart};
 
 use cl_base::{Disk, Trouble, write_gated};
 
@@ -30,6 +31,7 @@ pub fn append_inside<D: Disk>(
     ensures tells { D.tells disk.new ≡ D.tells disk.old }
     ensures honest { D.is_honest disk.new ≡ D.is_honest disk.old }
     ensures others { IsTrue (D.tells disk.old) → OthersStay (2 + segment) (D.state disk.old).files (D.state disk.new).files }
+    ensures apart { IsTrue (D.is_honest disk.old) → LeavesOnly D.moment D.left_since disk.old disk.new (IsApart (D.state disk.old).files) }
     ensures written { IsTrue (D.tells disk.old)
         → OnOk result (ChangesFile (2 + segment) (D.state disk.old).files (D.state disk.new).files (settled_file (overwritten (at + 31) (open_byte ∷ []) (shut at head.now (at + 31) tail.now ((D.state disk.old).files (2 + segment)).reads)))) }
 

@@ -8,7 +8,7 @@ ghost use Rattle.entry_log.specs.Log.{Log, place, place_from};
 ghost use Rattle.log_segment.specs.Segment.{LogIs};
 ghost use Rattle.log_segment.specs.Batch.{IsBatchAt, first_len};
 ghost use Rattle.log_segment.specs.Held.{IsEventEntry, IsHeld};
-ghost use Rattle.log_segment.specs.Whole.{LogIsOne, LogLeft};
+ghost use Rattle.log_segment.specs.Whole.{IsApart, LogIsOne, LogLeft};
 ghost use Rattle.log_segment.specs.declared.batch.Batch.{Batch};
 ghost use Rattle.log_segment.specs.Spelled.{IsSpelled, CanWrite, write_calls, zeros_behind};
 
@@ -114,6 +114,7 @@ impl Batch {
         ensures tells { D.tells disk.new ≡ D.tells disk.old }
         ensures honest { D.is_honest disk.new ≡ D.is_honest disk.old }
         ensures others { IsTrue (D.tells disk.old) → (g : ℕ) → (g < 2) ⊎ (258 ≤ g) → (D.state disk.new).files g ≡ (D.state disk.old).files g }
+        ensures apart { IsTrue (D.is_honest disk.old) → LeavesOnly D.moment D.left_since disk.old disk.new (IsApart (D.state disk.old).files) }
 
         // On a disk that tells, what is read stands for the log with the batch then.
         ensures reads { IsTrue (D.tells disk.old) → (log entries : Log) → IsHeld log → IsSpelled (place log) entries self.now → LogIs log (λ f. ((D.state disk.old).files f).reads)

@@ -58,7 +58,7 @@ impl Segments {
     ghost use Rattle.log_segment.specs.Held.{IsHeld, AreRanged, new_terms};
     ghost use Rattle.log_segment.specs.Spelled.{IsSpelled, CanWrite, append_calls};
     ghost use Rattle.log_segment.specs.Looked.{Looked, IsOnly};
-    ghost use Rattle.log_segment.specs.Whole.{LogIsOne, LogLeft};
+    ghost use Rattle.log_segment.specs.Whole.{IsApart, LogIsOne, LogLeft};
     ghost use Rattle.log_segment.specs.Cuts.{CutLeft};
 
     /// Reads the log from its segments, and changes nothing. Damaged names the first wrong byte.
@@ -128,6 +128,7 @@ impl Segments {
         ensures tells { D.tells disk.new ≡ D.tells disk.old }
         ensures honest { D.is_honest disk.new ≡ D.is_honest disk.old }
         ensures others { IsTrue (D.tells disk.old) → (g : ℕ) → (g < 2) ⊎ (258 ≤ g) → (D.state disk.new).files g ≡ (D.state disk.old).files g }
+        ensures apart { IsTrue (D.is_honest disk.old) → LeavesOnly D.moment D.left_since disk.old disk.new (IsApart (D.state disk.old).files) }
         ensures stands { IsTrue (D.tells disk.old) → OnOk result (LogIs self.new (λ f. ((D.state disk.new).files f).reads)) }
 
         // Each image stands for the log then, and at any moment of the call each stands for the log before or after.
@@ -160,6 +161,7 @@ impl Segments {
         ensures tells { D.tells disk.new ≡ D.tells disk.old }
         ensures honest { D.is_honest disk.new ≡ D.is_honest disk.old }
         ensures others { IsTrue (D.tells disk.old) → (g : ℕ) → (g < 2) ⊎ (258 ≤ g) → (D.state disk.new).files g ≡ (D.state disk.old).files g }
+        ensures apart { IsTrue (D.is_honest disk.old) → LeavesOnly D.moment D.left_since disk.old disk.new (IsApart (D.state disk.old).files) }
         ensures stands { IsTrue (D.tells disk.old) → OnOk result (LogIs self.new (λ f. ((D.state disk.new).files f).reads)) }
 
         // Each image stands for the kept entries then, and at any moment of the call for these or for all.

@@ -7,7 +7,7 @@ ghost use Rattle.cl_base.specs.Runs.{EachImage};
 ghost use Rattle.entry_log.specs.Log.{Log};
 ghost use Rattle.log_segment.specs.Segment.{LogIs};
 ghost use Rattle.log_segment.specs.Batch.{IsAppend};
-ghost use Rattle.log_segment.specs.Whole.{LogIsOne, LogLeft, IsReady, IsPadded, CanAppend, CanFill, CanPad};
+ghost use Rattle.log_segment.specs.Whole.{IsApart, LogIsOne, LogLeft, IsReady, IsPadded, CanAppend, CanFill, CanPad};
 
 use crate::append::append_inside;
 use cl_base::{Disk, Trouble, write_led, write_through};
@@ -28,6 +28,7 @@ pub fn append_in<D: Disk>(
     ensures tells { D.tells disk.new ≡ D.tells disk.old }
     ensures honest { D.is_honest disk.new ≡ D.is_honest disk.old }
     ensures others { IsTrue (D.tells disk.old) → OthersStay (2 + segment) (D.state disk.old).files (D.state disk.new).files }
+    ensures apart { IsTrue (D.is_honest disk.old) → LeavesOnly D.moment D.left_since disk.old disk.new (IsApart (D.state disk.old).files) }
     ensures reads { IsTrue (D.tells disk.old) → (log batch : Log) (bytes : List ℕ) → IsAppend log batch segment at bytes head.now tail.now → LogIs log (λ f. ((D.state disk.old).files f).reads) → IsReady segment at bytes (λ f. ((D.state disk.old).files f).reads) → OnOk result (LogIs (log ++ batch) (λ f. ((D.state disk.new).files f).reads)) }
     ensures done { IsTrue (D.is_honest disk.old) → (log batch : Log) (bytes : List ℕ) → CanAppend log batch segment at bytes head.now tail.now (D.state disk.old).files → OnOk result (EachImage (LogIs (log ++ batch)) (D.state disk.new).files) }
     ensures each { IsTrue (D.is_honest disk.old) → (log batch : Log) (bytes : List ℕ) → CanAppend log batch segment at bytes head.now tail.now (D.state disk.old).files → EachImage (LogIsOne log (log ++ batch)) (D.state disk.new).files }
@@ -54,6 +55,7 @@ pub fn append_to_end<D: Disk>(
     ensures tells { D.tells disk.new ≡ D.tells disk.old }
     ensures honest { D.is_honest disk.new ≡ D.is_honest disk.old }
     ensures others { IsTrue (D.tells disk.old) → (g : ℕ) → g ≢ 2 + segment → g ≢ 3 + segment → (D.state disk.new).files g ≡ (D.state disk.old).files g }
+    ensures apart { IsTrue (D.is_honest disk.old) → LeavesOnly D.moment D.left_since disk.old disk.new (IsApart (D.state disk.old).files) }
     ensures reads { IsTrue (D.tells disk.old) → (log batch : Log) (bytes : List ℕ) → IsAppend log batch segment at bytes head.now tail.now → LogIs log (λ f. ((D.state disk.old).files f).reads) → OnOk result (LogIs (log ++ batch) (λ f. ((D.state disk.new).files f).reads)) }
     ensures done { IsTrue (D.is_honest disk.old) → (log batch : Log) (bytes : List ℕ) → CanFill log batch segment at bytes head.now tail.now (D.state disk.old).files → OnOk result (EachImage (LogIs (log ++ batch)) (D.state disk.new).files) }
     ensures each { IsTrue (D.is_honest disk.old) → (log batch : Log) (bytes : List ℕ) → CanFill log batch segment at bytes head.now tail.now (D.state disk.old).files → EachImage (LogIsOne log (log ++ batch)) (D.state disk.new).files }
@@ -84,6 +86,7 @@ pub fn append_with_pad<D: Disk>(
     ensures tells { D.tells disk.new ≡ D.tells disk.old }
     ensures honest { D.is_honest disk.new ≡ D.is_honest disk.old }
     ensures others { IsTrue (D.tells disk.old) → (g : ℕ) → g ≢ 2 + segment → g ≢ 3 + segment → (D.state disk.new).files g ≡ (D.state disk.old).files g }
+    ensures apart { IsTrue (D.is_honest disk.old) → LeavesOnly D.moment D.left_since disk.old disk.new (IsApart (D.state disk.old).files) }
     ensures reads { IsTrue (D.tells disk.old) → (log batch : Log) (bytes : List ℕ) → IsPadded log batch segment at bytes head.now tail.now → LogIs log (λ f. ((D.state disk.old).files f).reads) → OnOk result (LogIs (log ++ batch) (λ f. ((D.state disk.new).files f).reads)) }
     ensures done { IsTrue (D.is_honest disk.old) → (log batch : Log) (bytes : List ℕ) → CanPad log batch segment at bytes head.now tail.now (D.state disk.old).files → OnOk result (EachImage (LogIs (log ++ batch)) (D.state disk.new).files) }
     ensures each { IsTrue (D.is_honest disk.old) → (log batch : Log) (bytes : List ℕ) → CanPad log batch segment at bytes head.now tail.now (D.state disk.old).files → EachImage (LogIsOne log (log ++ batch)) (D.state disk.new).files }

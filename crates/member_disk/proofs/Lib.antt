@@ -8,3 +8,8 @@ pub mod Mounts
 pub mod Compose
 pub mod Preludes
 pub mod Files
+pub mod Lists
+pub mod LogFiles
+pub mod Strikes
+pub mod Sparing
+pub mod CutWells

@@ -16,7 +16,7 @@ use Rattle.log_segment.specs.declared.kept.NewTerm.{NewTerm}
 use Rattle.log_segment.specs.Held.{new_term_of, put_term, new_terms}
 use Rattle.member_disk.specs.Changes.{GrewByTerms, HasTerm, HaveTerms, HaveEach, term_at, IsNewRanged}
 
-terms_both : (xs ys : List RecEntry) → terms_of (xs ++ ys) ≡ terms_of xs ++ terms_of ys
+pub terms_both : (xs ys : List RecEntry) → terms_of (xs ++ ys) ≡ terms_of xs ++ terms_of ys
 terms_both [] ys = refl
 terms_both (x ∷ xs) ys = go (is_term x) (terms_both xs ys)
   where
@@ -24,7 +24,7 @@ terms_both (x ∷ xs) ys = go (is_term x) (terms_both xs ys)
     go true rest = λ n. term_of x ∷ rest n
     go false rest = rest
 
-get_first : (xs ys : List TermAt) (k : ℕ) (t : TermAt) → slice_get xs k ≡ Some t → slice_get (xs ++ ys) k ≡ Some t
+pub get_first : (xs ys : List TermAt) (k : ℕ) (t : TermAt) → slice_get xs k ≡ Some t → slice_get (xs ++ ys) k ≡ Some t
 get_first [] ys k t is = absurd (cc)
 get_first (x ∷ xs) ys zero t is = is
 get_first (x ∷ xs) ys (suc k) t is = get_first xs ys k t is

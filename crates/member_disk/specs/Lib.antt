@@ -1,3 +1,5 @@
 pub mod Kept
 pub mod Parts
 pub mod Changes
+pub mod Struck
+pub mod CutWell

@@ -1,5 +1,5 @@
 -- A change in parts, each of which a crash leaves done or not done.
-use Rattle.std.specs.Prelude.{ℕ, ◌+◌, ◌-◌, ◌==◌, ◌&&◌, nat_lt, Bool, if◌then◌else◌, ℤ, List, [], ◌∷◌, ◌++◌, Option, Some, None, nat_le, Result, OnOk}
+use Rattle.std.specs.Prelude.{ℕ, length, take, ◌+◌, ◌-◌, ◌==◌, ◌&&◌, nat_lt, Bool, if◌then◌else◌, ℤ, List, [], ◌∷◌, ◌++◌, Option, Some, None, nat_le, Result, OnOk}
 use Rattle.cl_base.specs.Disk.{DiskState, LeavesOnly, left_by}
 use Rattle.cl_base.specs.Every.{takes}
 use Rattle.cl_base.specs.Fuse.{FuseEnds}
@@ -11,6 +11,7 @@ use Rattle.node_state.specs.Node.{names_slot, raised}
 use Rattle.member_disk.specs.declared.durable.SnapshotHead.{SnapshotHead}
 use Rattle.member_disk.specs.Changes.{entry_for}
 use Rattle.recording_log.specs.Steps.{is_open}
+use Rattle.log_segment.specs.Cuts.{is_shut_byte}
 use Rattle.member_disk.specs.Kept.{Kept, Stands, Means, EachStands, StandsAmong}
 
 -- one part: its changing calls, the choices that leave it done where a fuse ended it at its last call, and what is kept
@@ -63,6 +64,14 @@ entry_part kept head = record { calls = 5; last = takes is_open; makes = record 
 -- a snapshot: its file in three calls, and then its entry
 abbrev pub put_part : Kept → SnapshotHead → Part
 put_part kept head = record { calls = 8; last = takes is_open; makes = record kept { entries = kept.entries ++ entry_for kept head ∷ [] } }
+
+-- the first entries of the log are kept
+abbrev pub cut_part : Kept → ℕ → Part
+cut_part kept n = record { calls = 2; last = takes is_shut_byte; makes = record kept { log = take n kept.log } }
+
+-- a cut, which to the whole log has no call
+abbrev pub cut_parts : Kept → ℕ → List Part
+cut_parts kept n = if n == length kept.log then [] else cut_part kept n ∷ []
 
 -- what is kept after a change of these parts and a crash by a choice, by what the fuse lets pass
 abbrev pub by_fuse : List Part → Kept → Option ℕ → Choice → Kept

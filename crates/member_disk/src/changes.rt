@@ -10,7 +10,9 @@ ghost use Rattle.snapshot_store.specs.Snapshots.{spelled};
 ghost use Rattle.log_segment.specs.Batch.{IsBatchAt};
 ghost use Rattle.log_segment.specs.Held.{IsEventEntry, new_term_of, put_term, new_terms};
 ghost use Rattle.member_disk.specs.Kept.{ReadsAs, EachStands};
-ghost use Rattle.member_disk.specs.Parts.{IsMade, raise_part, entry_part, put_part};
+ghost use Rattle.member_disk.specs.Parts.{IsMade, raise_part, entry_part, put_part, cut_parts};
+ghost use Rattle.member_disk.specs.Struck.{IsStruck, with_struck};
+ghost use Rattle.member_disk.specs.CutWell.{Spares, IsCutWell, no_file, file_of};
 ghost use Rattle.member_disk.specs.Changes.{IsNewRanged, HasTerm, HaveTerms, HasMoreTerms, IsAppended, base_of, entry_for, IsHead, IsPut, HasAppendCause};
 
 use crate::durable::{Durable, SnapshotHead};
@@ -55,6 +57,9 @@ impl Durable {
         ensures tells { D.tells disk.new ≡ D.tells disk.old }
         ensures honest { D.is_honest disk.new ≡ D.is_honest disk.old }
         ensures stands { IsTrue (D.tells disk.old) → OnOk result (ReadsAs self.new (D.state disk.new).files) }
+        ensures spares { IsTrue (D.is_honest disk.old) → EachStands self.old (D.state disk.old).files → Spares D.state D.moment D.left_since no_file disk.old disk.new }
+        ensures cut_well { IsTrue (D.is_honest disk.old) → EachStands self.old (D.state disk.old).files → HaveTerms self.old.entries (new_terms 0 self.old.log)
+            → IsCutWell D.state D.moment D.left_since no_file self.old (raise_part self.old term voted).makes disk.old disk.new }
         ensures made { IsTrue (D.is_honest disk.old) → EachStands self.old (D.state disk.old).files
             → IsMade D.state D.moment D.left_since (raise_part self.old term voted ∷ []) self.old disk.old disk.new result }
     {
@@ -154,6 +159,11 @@ impl Durable {
         ensures tells { D.tells disk.new ≡ D.tells disk.old }
         ensures honest { D.is_honest disk.new ≡ D.is_honest disk.old }
         ensures stands { IsTrue (D.tells disk.old) → OnOk result (ReadsAs self.new (D.state disk.new).files) }
+        ensures spares { IsTrue (D.is_honest disk.old) → EachStands self.old (D.state disk.old).files → Spares D.state D.moment D.left_since no_file disk.old disk.new }
+        ensures cut_well { IsTrue (D.is_honest disk.old) → EachStands self.old (D.state disk.old).files → HaveTerms self.old.entries (new_terms 0 self.old.log)
+            → IsCutWell D.state D.moment D.left_since no_file self.old (record self.old { log = take entries self.old.log }) disk.old disk.new }
+        ensures made { IsTrue (D.is_honest disk.old) → EachStands self.old (D.state disk.old).files
+            → IsMade D.state D.moment D.left_since (cut_parts self.old entries) self.old disk.old disk.new result }
     {
         self.log.cut(disk, entries)
     }
@@ -200,6 +210,9 @@ impl Durable {
         ensures tells { D.tells disk.new ≡ D.tells disk.old }
         ensures honest { D.is_honest disk.new ≡ D.is_honest disk.old }
         ensures stands { IsTrue (D.tells disk.old) → OnOk result (ReadsAs self.new (D.state disk.new).files) }
+        ensures spares { IsTrue (D.is_honest disk.old) → EachStands self.old (D.state disk.old).files → Spares D.state D.moment D.left_since (file_of head.recording) disk.old disk.new }
+        ensures cut_well { IsTrue (D.is_honest disk.old) → EachStands self.old (D.state disk.old).files → HaveTerms self.old.entries (new_terms 0 self.old.log) → (IsThere (entry_for self.old head) self.old.entries → ⊥)
+            → IsCutWell D.state D.moment D.left_since (file_of head.recording) self.old (put_part self.old head).makes disk.old disk.new }
         ensures made { IsTrue (D.is_honest disk.old) → EachStands self.old (D.state disk.old).files → (IsThere (entry_for self.old head) self.old.entries → ⊥)
             → IsMade D.state D.moment D.left_since (put_part self.old head ∷ []) self.old disk.old disk.new result }
         ensures again { IsThere (entry_for self.old head) self.old.entries → disk.new ≡ disk.old }
@@ -224,6 +237,7 @@ impl Durable {
         ensures tells { D.tells disk.new ≡ D.tells disk.old }
         ensures honest { D.is_honest disk.new ≡ D.is_honest disk.old }
         ensures stands { IsTrue (D.tells disk.old) → OnOk result (ReadsAs self.new (D.state disk.new).files) }
+        ensures spares { IsTrue (D.is_honest disk.old) → EachStands self.old (D.state disk.old).files → Spares D.state D.moment D.left_since no_file disk.old disk.new }
         ensures made { IsTrue (D.is_honest disk.old) → EachStands self.old (D.state disk.old).files
             → IsMade D.state D.moment D.left_since (entry_part self.old head ∷ []) self.old disk.old disk.new result }
     {
@@ -259,6 +273,12 @@ impl Durable {
         ensures tells { D.tells disk.new ≡ D.tells disk.old }
         ensures honest { D.is_honest disk.new ≡ D.is_honest disk.old }
         ensures stands { IsTrue (D.tells disk.old) → OnOk result (ReadsAs self.new (D.state disk.new).files) }
+        ensures struck { IsTrue (D.is_honest disk.old) → EachStands self.old (D.state disk.old).files → (i : ℕ) (e : RecEntry) → IsLatest self.old.services self.old.entries i e
+            → IsStruck D.state D.moment D.left_since self.old (with_struck self.old i e) disk.old disk.new result }
+        ensures spares { IsTrue (D.is_honest disk.old) → EachStands self.old (D.state disk.old).files → (i : ℕ) (e : RecEntry) → IsLatest self.old.services self.old.entries i e
+            → Spares D.state D.moment D.left_since no_file disk.old disk.new }
+        ensures cut_well { IsTrue (D.is_honest disk.old) → EachStands self.old (D.state disk.old).files → HaveTerms self.old.entries (new_terms 0 self.old.log) → (i : ℕ) (e : RecEntry) → IsLatest self.old.services self.old.entries i e
+            → IsCutWell D.state D.moment D.left_since no_file self.old (with_struck self.old i e) disk.old disk.new }
     {
         if self.recording.reserve_sets(&mut self.sets, 0).is_err() {
             return Err(MemberFault::NoMemory);

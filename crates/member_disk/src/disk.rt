@@ -43,7 +43,9 @@ impl<D: Disk> MemberDisk<D> {
     ghost use Rattle.log_segment.specs.Looked.{IsOnly};
     ghost use Rattle.snapshot_store.specs.Snapshots.{ArePieces, spelled};
     ghost use Rattle.member_disk.specs.Kept.{Kept, ReadsAs, ReadsLike, Means, EachStands, IsSettled};
-    ghost use Rattle.member_disk.specs.Parts.{IsMade, raise_part, put_part, MountEnds};
+    ghost use Rattle.member_disk.specs.Parts.{IsMade, raise_part, put_part, cut_parts, MountEnds};
+    ghost use Rattle.member_disk.specs.Struck.{IsStruck, with_struck};
+    ghost use Rattle.member_disk.specs.CutWell.{IsCutWell, no_file, file_of};
     ghost use Rattle.node_state.specs.Node.{mount_calls};
     ghost use Rattle.member_disk.specs.Changes.{HaveTerms, IsAppended, entry_for, HasMoreTerms, IsHead, IsPut, IsMemberOf, HasSome, HasAppendCause};
 
@@ -104,6 +106,9 @@ impl<D: Disk> MemberDisk<D> {
         // is as the part says.
         ensures made { IsTrue (D.is_honest self.old.disk) → EachStands self.old.kept (D.state self.old.disk).files
             → IsMade D.state D.moment D.left_since (raise_part self.old.kept term voted ∷ []) self.old.kept self.old.disk self.new.disk result }
+        // Whatever the answer, and whenever a crash comes, a mount finds the state before or the one after.
+        ensures cut_well { IsTrue (D.is_honest self.old.disk) → EachStands self.old.kept (D.state self.old.disk).files → HaveTerms self.old.kept.entries (new_terms 0 self.old.kept.log)
+            → IsCutWell D.state D.moment D.left_since no_file self.old.kept (raise_part self.old.kept term voted).makes self.old.disk self.new.disk }
     {
         match self.durable.raise(&mut self.disk, term, voted) {
             Ok(()) => Ok(()),
@@ -150,6 +155,11 @@ impl<D: Disk> MemberDisk<D> {
         ensures tells { D.tells self.new.disk ≡ D.tells self.old.disk }
         ensures honest { D.is_honest self.new.disk ≡ D.is_honest self.old.disk }
         ensures whole { OnOk result (IsTrue self.new.whole) }
+        ensures made { IsTrue (D.is_honest self.old.disk) → EachStands self.old.kept (D.state self.old.disk).files
+            → IsMade D.state D.moment D.left_since (cut_parts self.old.kept entries) self.old.kept self.old.disk self.new.disk result }
+        // Whatever the answer, and whenever a crash comes, a mount finds the state before or the one after.
+        ensures cut_well { IsTrue (D.is_honest self.old.disk) → EachStands self.old.kept (D.state self.old.disk).files → HaveTerms self.old.kept.entries (new_terms 0 self.old.kept.log)
+            → IsCutWell D.state D.moment D.left_since no_file self.old.kept (record self.old.kept { log = take entries self.old.kept.log }) self.old.disk self.new.disk }
     {
         match self.durable.cut(&mut self.disk, entries) {
             Ok(()) => Ok(()),
@@ -177,6 +187,9 @@ impl<D: Disk> MemberDisk<D> {
         ensures made { IsTrue (D.is_honest self.old.disk) → EachStands self.old.kept (D.state self.old.disk).files → (IsThere (entry_for self.old.kept head) self.old.kept.entries → ⊥)
             → IsMade D.state D.moment D.left_since (put_part self.old.kept head ∷ []) self.old.kept self.old.disk self.new.disk result }
         ensures again { IsThere (entry_for self.old.kept head) self.old.kept.entries → self.new.disk ≡ self.old.disk }
+        // Whatever the answer, and whenever a crash comes, a mount finds the state before or the one after.
+        ensures cut_well { IsTrue (D.is_honest self.old.disk) → EachStands self.old.kept (D.state self.old.disk).files → HaveTerms self.old.kept.entries (new_terms 0 self.old.kept.log) → (IsThere (entry_for self.old.kept head) self.old.kept.entries → ⊥)
+            → IsCutWell D.state D.moment D.left_since (file_of head.recording) self.old.kept (put_part self.old.kept head).makes self.old.disk self.new.disk }
     {
         match self.durable.put_snapshot(&mut self.disk, head, pieces) {
             Ok(()) => Ok(()),
@@ -199,6 +212,12 @@ impl<D: Disk> MemberDisk<D> {
         ensures tells { D.tells self.new.disk ≡ D.tells self.old.disk }
         ensures honest { D.is_honest self.new.disk ≡ D.is_honest self.old.disk }
         ensures whole { OnOk result (IsTrue self.new.whole) }
+        // Of the byte that is written last a crash may leave any value: then what counts is as before or as after.
+        ensures struck { IsTrue (D.is_honest self.old.disk) → EachStands self.old.kept (D.state self.old.disk).files → (i : ℕ) (e : RecEntry) → IsLatest self.old.kept.services self.old.kept.entries i e
+            → IsStruck D.state D.moment D.left_since self.old.kept (with_struck self.old.kept i e) self.old.disk self.new.disk result }
+        // Whatever the answer, and whenever a crash comes, a mount finds the state before or the one after.
+        ensures cut_well { IsTrue (D.is_honest self.old.disk) → EachStands self.old.kept (D.state self.old.disk).files → HaveTerms self.old.kept.entries (new_terms 0 self.old.kept.log) → (i : ℕ) (e : RecEntry) → IsLatest self.old.kept.services self.old.kept.entries i e
+            → IsCutWell D.state D.moment D.left_since no_file self.old.kept (with_struck self.old.kept i e) self.old.disk self.new.disk }
     {
         match self.durable.invalidate(&mut self.disk) {
             Ok(found) => Ok(found),

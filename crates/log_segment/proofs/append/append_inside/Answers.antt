@@ -1,6 +1,6 @@
 -- What a gated write makes of a segment.
 use Rattle.std.specs.Prelude.{OnOk}
-use Rattle.std.proofs.Common.{◌+◌, ◌++◌, Result, Ok, Err}
+use Rattle.std.proofs.Common.{◌+◌, ◌++◌, Result, Ok, Err, arith}
 use Rattle.cl_base.specs.Every.{FileIs}
 use Rattle.cl_base.specs.Torn.{weaker}
 use Rattle.cl_base.specs.Fuse.{ends_weaker}
@@ -8,6 +8,7 @@ use Rattle.cl_base.specs.Gated.{GatedImage, GatedLeft}
 use Rattle.cl_base.specs.declared.fault.Trouble.{Trouble}
 use Rattle.cl_base.specs.declared.fault.Trouble.TheVariants.{Failed}
 use Rattle.log_segment.specs.Batch.{SegmentIsOne, AppendLeft}
+use Rattle.log_segment.proofs.ApartLemmas.{apart_file}
 use Rattle.log_segment.proofs.InsideLemmas.{appended_all, appended_each, appended_moment, appended_fuse}
 use Rattle.log_segment.proofs.append.append_inside.Goals as goal
 
@@ -68,3 +69,11 @@ returns-clause-fuse g c honest log batch bytes is every =
     let read = every.this (f0 (2 + s)).reads (g.met.D.Disk.reads_is_image d0 (2 + s) honest) in
     ends_weaker (Unit {0}) Trouble Failed 5 (GatedLeft (2 + s) at head (at + 31) tail (f0 (2 + s))) (AppendLeft s log (log ++ batch)) (g.D.Disk.state d0) (g.D.Disk.state d1) c.write_gated.result
     (appended_fuse log batch s at bytes head tail is c.requires.segment c.requires.size f0 every read (g.D.Disk.state d1)) (c.write_gated.ensures.fuse honest)
+
+pub returns-clause-apart : goal.returns-clause-apart
+returns-clause-apart g c honest =
+    let d0 = c.args.disk.now in
+    let f0 = (g.D.Disk.state d0).files in
+    let file = 2 + c.args.segment in
+    let gate = c.args.at + 31 in
+    apart_file g.D.Disk.moment g.D.Disk.left_since d0 c.write_gated.new.disk f0 file (GatedImage c.args.at c.args.head.now gate c.args.tail.now (f0 file)) (omega arith) (omega (arith, c.requires.segment)) (c.write_gated.ensures.any_moment honest)

@@ -1,5 +1,5 @@
 -- One byte, and a sync.
-use Rattle.std.proofs.Common.{inl, ℕ, ◌+◌, [], ◌∷◌}
+use Rattle.std.proofs.Common.{inl, ℕ, ◌+◌, [], ◌∷◌, arith}
 use Rattle.cl_base.specs.Images.{IsSound}
 use Rattle.cl_base.specs.Through.{ThroughLeft}
 use Rattle.cl_base.specs.Fuse.{ends_weaker}
@@ -11,6 +11,7 @@ use Rattle.log_segment.specs.Whole.{LogIsOne}
 use Rattle.log_segment.specs.Cuts.{CutLeft}
 use Rattle.log_segment.proofs.SpellLemmas.{mapped}
 use Rattle.log_segment.proofs.CutLemmas.{cut_one, cut_after, cut_left}
+use Rattle.log_segment.proofs.ApartLemmas.{apart_through}
 use Rattle.log_segment.proofs.StillLemmas.{cut_reads}
 use Rattle.log_segment.proofs.cut.shut_gate.Given as given
 use Rattle.log_segment.proofs.cut.shut_gate.Goals as goal
@@ -70,3 +71,8 @@ returns-clause-reads g c told log kept is stands =
     mapped (Unit {0}) Trouble _ _ c.write_through.result
     (cut_reads log kept c.args.segment c.args.at (g.D.Disk.state c.args.disk.now).files (g.D.Disk.state c.write_through.new.disk).files is c.requires.segment stands)
     (c.write_through.ensures.done told)
+
+pub returns-clause-apart : goal.returns-clause-apart
+returns-clause-apart g c honest =
+    let d0 = c.args.disk.now in
+    apart_through g.D.Disk.moment g.D.Disk.left_since d0 c.write_through.new.disk (g.D.Disk.state d0).files (2 + c.args.segment) (c.args.at + 31) 1 (omega arith) (omega (arith, c.requires.segment)) (c.write_through.ensures.any_moment honest)

@@ -14,6 +14,7 @@ use Rattle.cl_base.specs.declared.fault.Trouble.TheVariants.{Failed}
 use Rattle.entry_log.specs.Log.{Log, place}
 use Rattle.log_segment.specs.Segment.{IsShut, LogIs}
 use Rattle.log_segment.specs.Whole.{LogIsOne, LogLeft, CanAppend, CanFill}
+use Rattle.log_segment.proofs.ApartLemmas.{not_these, apart_through, apart_after}
 use Rattle.log_segment.proofs.WholeLemmas.{torn_beyond, zeros_shut}
 use Rattle.log_segment.proofs.StillLemmas.{shut_next}
 use Rattle.log_segment.proofs.whole.append_to_end.Given as given
@@ -136,3 +137,20 @@ returns-in-Ok-clause-reads g c told log batch bytes is stands =
     let f1 = (g.D.Disk.state c.write_through.new.disk).files in
     let next = shut_next log batch c.args.segment c.args.at bytes c.args.head.now c.args.tail.now f0 f1 stands is (c.in-Ok.ensures.done told) in
     c.append_in.ensures.reads (subst IsTrue (sym c.write_through.ensures.tells) told) log batch bytes is next.0 next.1
+
+pub returns-in-Err-clause-apart : goal.returns-in-Err-clause-apart
+returns-in-Err-clause-apart g c honest =
+    let d0 = c.args.disk.now in
+    apart_through g.D.Disk.moment g.D.Disk.left_since d0 c.write_through.new.disk (g.D.Disk.state d0).files (3 + c.args.segment) 0 32 (omega arith) (omega (arith, c.requires.segment)) (c.write_through.ensures.any_moment honest)
+
+pub returns-in-Ok-clause-apart : goal.returns-in-Ok-clause-apart
+returns-in-Ok-clause-apart g c honest =
+    let d0 = c.args.disk.now in
+    let d1 = c.write_through.new.disk in
+    let f0 = (g.D.Disk.state d0).files in
+    let low : 2 ≤ 3 + c.args.segment = omega arith in
+    let high : 3 + c.args.segment < 258 = omega (arith, c.requires.segment) in
+    apart_after g.D.Disk.moment g.D.Disk.left_since d0 d1 c.append_in.new.disk f0 (g.D.Disk.state d1).files
+    (λ x far. c.write_through.ensures.others (g.met.D.Disk.honest_tells d0 honest) x (not_these x (3 + c.args.segment) low high far))
+    (apart_through g.D.Disk.moment g.D.Disk.left_since d0 d1 f0 (3 + c.args.segment) 0 32 low high (c.write_through.ensures.any_moment honest))
+    (c.append_in.ensures.apart (subst IsTrue (sym c.write_through.ensures.honest) honest))

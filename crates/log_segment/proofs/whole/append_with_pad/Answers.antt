@@ -1,6 +1,6 @@
 -- A pad's gate, behind which the next segment goes on.
 use Rattle.std.specs.Prelude.{OnOk}
-use Rattle.std.proofs.Common.{ℕ, ◌+◌, ◌++◌, Result, Ok, Err}
+use Rattle.std.proofs.Common.{ℕ, ◌+◌, ◌++◌, Result, Ok, Err, arith}
 use Rattle.cl_base.specs.Images.{IsSound}
 use Rattle.cl_base.specs.Torn.{weaker}
 use Rattle.cl_base.specs.Gated.{LedImage, LedLeft}
@@ -8,6 +8,7 @@ use Rattle.cl_base.specs.Fuse.{ends_weaker}
 use Rattle.cl_base.specs.declared.fault.Trouble.{Trouble}
 use Rattle.cl_base.specs.declared.fault.Trouble.TheVariants.{Failed}
 use Rattle.log_segment.specs.Whole.{LogIsOne, LogLeft}
+use Rattle.log_segment.proofs.ApartLemmas.{apart_led}
 use Rattle.log_segment.proofs.PadLemmas.{pad_one, pad_after, pad_left}
 use Rattle.log_segment.proofs.StillLemmas.{pad_reads}
 use Rattle.log_segment.proofs.whole.append_with_pad.Goals as goal
@@ -61,3 +62,10 @@ returns-clause-reads g c told log batch bytes is stands =
     both (Unit {0}) Trouble _ _ _ c.write_led.result
     (λ first second. pad_reads log batch c.args.segment c.args.at bytes c.args.head.now c.args.tail.now (g.D.Disk.state c.args.disk.now).files (g.D.Disk.state c.write_led.new.disk).files stands is c.requires.segment c.requires.size first second (c.write_led.ensures.others told))
     (c.write_led.ensures.first told) (c.write_led.ensures.second told)
+
+pub returns-clause-apart : goal.returns-clause-apart
+returns-clause-apart g c honest =
+    let d0 = c.args.disk.now in
+    let s = c.args.segment in
+    apart_led g.D.Disk.moment g.D.Disk.left_since d0 c.write_led.new.disk (g.D.Disk.state d0).files (2 + s) c.args.at c.args.head.now (c.args.at + 31) (3 + s) c.args.tail.now
+    (omega arith) (omega (arith, c.requires.segment)) (omega arith) (omega (arith, c.requires.segment)) (c.write_led.ensures.any_moment honest)

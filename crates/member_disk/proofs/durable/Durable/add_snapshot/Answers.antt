@@ -1,4 +1,4 @@
-use Rattle.std.proofs.Common.{◌≡◌, List, [], ◌∷◌, ◌++◌, Result, Ok, Err, rules, sym, ◌∙◌, ap, subst}
+use Rattle.std.proofs.Common.{◌≡◌, List, [], ◌∷◌, ◌++◌, Result, Ok, Err, rules, sym, ◌∙◌, ap, subst, arith}
 use Rattle.std.specs.Int.{w32, w64, cast_signed, cast_unsigned}
 use Rattle.cl_base.specs.Every.{takes}
 use Rattle.cl_base.specs.declared.fault.MemberFault.{MemberFault}
@@ -13,6 +13,9 @@ use Rattle.recording_log.specs.Entries.{Holds}
 use Rattle.member_disk.specs.Kept.{Kept, ReadsAs, EachStands}
 use Rattle.member_disk.proofs.Standing.{after_entries}
 use Rattle.cl_base.specs.Runs.{DiskLaws}
+use Rattle.member_disk.specs.CutWell.{no_file}
+use Rattle.member_disk.proofs.Compose.{every_of}
+use Rattle.member_disk.proofs.Sparing.{spares_none, spares_file, front_file}
 use Rattle.member_disk.proofs.durable.Durable.add_snapshot.Given as given
 use Rattle.member_disk.proofs.durable.Durable.add_snapshot.Goals as goal
 
@@ -72,3 +75,22 @@ pub returns-then-is_err-clause-made : goal.returns-then-is_err-clause-made
 returns-then-is_err-clause-made g c honest all =
     let d0 = c.args.disk.now in
     none_made (laws_of g) (Unit {0}) (entry_part c.args.self.now c.args.head) c.args.self.now d0 NoMemory honest all (λ is. absurd (cc))
+
+pub returns-in-Ok-clause-spares : goal.returns-in-Ok-clause-spares
+returns-in-Ok-clause-spares g c honest all =
+    let mine : Kept = record { node = c.self.inside.node; entries = c.self.inside.recording; log = c.self.inside.log; services = c.self.inside.services } in
+    let d0 = c.args.disk.now in
+    let here = subst (λ (k : Kept). EachStands k (g.D.Disk.state d0).files) (sym c.self.view_is) all in
+    let there = every_of (laws_of g) 1 (Holds mine.entries) mine d0 honest here (λ x is. is.entries) in
+    spares_file (laws_of g) no_file 1 _ d0 c.add_snapshot.new.disk (front_file no_file 1 (omega arith)) (c.add_snapshot.ensures.others (g.met.D.Disk.honest_tells d0 honest)) (c.add_snapshot.ensures.cut_well honest there)
+
+pub returns-in-Err-clause-spares : goal.returns-in-Err-clause-spares
+returns-in-Err-clause-spares g c honest all =
+    let mine : Kept = record { node = c.self.inside.node; entries = c.self.inside.recording; log = c.self.inside.log; services = c.self.inside.services } in
+    let d0 = c.args.disk.now in
+    let here = subst (λ (k : Kept). EachStands k (g.D.Disk.state d0).files) (sym c.self.view_is) all in
+    let there = every_of (laws_of g) 1 (Holds mine.entries) mine d0 honest here (λ x is. is.entries) in
+    spares_file (laws_of g) no_file 1 _ d0 c.add_snapshot.new.disk (front_file no_file 1 (omega arith)) (c.add_snapshot.ensures.others (g.met.D.Disk.honest_tells d0 honest)) (c.add_snapshot.ensures.cut_well honest there)
+
+pub returns-then-is_err-clause-spares : goal.returns-then-is_err-clause-spares
+returns-then-is_err-clause-spares g c honest all = spares_none (laws_of g) no_file c.args.disk.now honest
