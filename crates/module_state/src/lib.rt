@@ -27,3 +27,6 @@ pub use laws::{
 pub use moment::Moment;
 pub use output::ModuleOutput;
 pub use state::ModuleState;
+
+#[cfg(test)]
+mod tests;

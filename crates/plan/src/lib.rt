@@ -6,3 +6,6 @@ mod number;
 mod words;
 
 pub use words::{Plan, WordsFault, plan_words};
+
+#[cfg(test)]
+mod tests;

@@ -5,6 +5,8 @@
 mod container;
 mod gate;
 mod outbox;
+#[cfg(test)]
+mod tests;
 mod works;
 
 pub use container::{Container, ServeEnd, Served};
