@@ -1,6 +1,14 @@
+pub mod Ahead
+pub mod Batches
+pub mod Commits
+pub mod Due
 pub mod Entries
 pub mod Phasing
+pub mod Running
 pub mod Sets
 pub mod Shapes
+pub mod Sounding
 pub mod Spoken
+pub mod There
+pub mod Views
 pub mod Wanted

@@ -1,4 +1,6 @@
 -- What became of a packet.
+use Rattle.std.specs.Prelude.{◌≡◌, ⊤, ℕ, List, Some}
+use Rattle.sbe_consensus.specs.Spelling.{first_fault}
 use Rattle.consensus_core.specs.declared.row.Row.{Row}
 use Rattle.consensus_core.specs.declared.values.Values.{Values}
 use Rattle.member_disk.specs.Kept.{Kept}
@@ -10,3 +12,13 @@ use Rattle.consensus_agent.specs.Rows.{RowRan}
 abbrev pub RanPacket : Row → Kept → Kept → Values → Delivered → Type 0
 RanPacket row a b v (delivered.Sent out) = RowRan row a b v out
 RanPacket row a b v (delivered.Bad bad) = ⊥
+
+-- bytes that are called bad are so, by their first fault
+abbrev pub TellsBad : List ℕ → Delivered → Type 0
+TellsBad bytes (delivered.Bad bad) = first_fault bytes ≡ Some bad
+TellsBad bytes (delivered.Sent out) = ⊤
+
+-- a fact of bytes that are called bad
+abbrev pub OnBad : Delivered → Type 0 → Type 0
+OnBad (delivered.Bad bad) p = p
+OnBad (delivered.Sent out) p = ⊤

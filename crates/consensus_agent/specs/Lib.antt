@@ -3,4 +3,5 @@ pub mod Rows
 pub mod Delivered
 pub mod Phases
 pub mod Starts
-pub mod Stands
+pub mod Sound
+pub mod Accepted

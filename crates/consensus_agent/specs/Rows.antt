@@ -1,5 +1,5 @@
 -- What a row makes of a member.
-use Rattle.std.specs.Prelude.{◌≡◌, ℕ, List, ◌++◌, take, All}
+use Rattle.std.specs.Prelude.{◌≡◌, ◌⊎◌, ℕ, List, ◌++◌, take, All}
 use Rattle.cl_base.specs.declared.entry.Entry.{Entry}
 use Rattle.entry_log.specs.Log.{Log}
 use Rattle.entry_log.specs.Shape.{Shape, shape_of}
@@ -29,6 +29,10 @@ Made (changes.Raise term voted) a b = IsKept (raised a.node term voted) a.log b
 Made (changes.Append entries) a b = IsKept a.node (a.log ++ entries) b
 Made (changes.Cut n) a b = IsKept a.node (take n a.log) b
 
+-- what a row leaves that a fault cut: what was kept before its change, or what is kept after it
+abbrev pub CutRow : Change → Kept → Kept → Type 0
+CutRow change a b = IsKept a.node a.log b ⊎ Made change a b
+
 -- the packets of what was to be sent over a log of this shape, with the entries that were read of the log for its batches
 pub record IsSpoken (c : Held) (xs : Shape) (out : List Outgoing) : Type 0 where
   pub read : List Entry
@@ -46,3 +50,9 @@ pub record RanDuty (now : ℕ) (old : Values) (a b : Kept) (new : Values) (out :
   pub due : List Event
   pub spelled : All IsEvent due
   pub ran : RowRan (does_duty old (shape_of a.log) due now) a b new out
+
+-- a duty's row was cut, with some due events
+pub record CutDuty (now : ℕ) (old : Values) (a b : Kept) : Type 0 where
+  pub due : List Event
+  pub spelled : All IsEvent due
+  pub cut : CutRow (does_duty old (shape_of a.log) due now).change a b

@@ -1,5 +1,7 @@
 // One member as a whole.
-ghost use Rattle.std.specs.Prelude.{◌≡◌, ◌≤◌, ◌^◌};
+ghost use Rattle.std.specs.Prelude.{◌≡◌, ◌≤◌, ◌^◌, IsTrue, length};
+ghost use Rattle.std.proofs.Props.{props};
+ghost use Rattle.consensus_agent.specs.Sound.{IsSound};
 
 use cl_base::{Disk, Entry};
 use commit_counter::Role;
@@ -26,11 +28,15 @@ pub struct Agent<D: Disk> {
     pub(crate) role: Role,
     /// Since the phase began the log was cut, or the member became ready to lead.
     pub(crate) over: bool,
+    /// No call has failed in the middle: where one has, the member is only given up.
+    pub(crate) is_whole: bool,
     ghost bounded: { base ≤ 2 ^ 62 },
+    ghost sound: { IsTrue is_whole → IsSound core.values disk.kept disk.whole «module» } by { Prim.hlevel props },
 }
 
 impl<D: Disk> Agent<D> {
     ghost use Rattle.entry_log.specs.Shape.{shape_of};
+    ghost use Rattle.consensus_core.specs.Member.{is_ready as leads};
 
     /// Where it stands in the agreement.
     pub fn state(&self) -> State
@@ -40,7 +46,9 @@ impl<D: Disk> Agent<D> {
     }
 
     /// Whether it leads, and its term's first entry is in its log.
-    pub fn is_ready(&self) -> bool {
+    pub fn is_ready(&self) -> bool
+        ensures value { result ≡ leads self.now.core.values.election.state }
+    {
         matches!(self.core.state(), State::LeaderReady)
     }
 
@@ -91,6 +99,13 @@ impl<D: Disk> Agent<D> {
         self.count
     }
 
+    /// How many services are at hand: all of them while no phase runs, and none while one runs.
+    pub fn at_hand(&self) -> usize
+        ensures { result ≡ length self.now.services.kept }
+    {
+        self.services.containers().len()
+    }
+
     /// The entries that a service consumed since the mount, in order. No phase runs.
     pub fn inputs(&self, service: u8) -> &[Entry] {
         match self.services.containers().get(service as usize) {
@@ -113,6 +128,14 @@ impl<D: Disk> Agent<D> {
         self.disk.index()
     }
 
+    /// Whether each call so far was done, or changed nothing. Where one was not, the member is only given up: `deliver`,
+    /// `duty`, `client`, `action` and `phase_end` answer NoMemory and change nothing.
+    pub fn is_whole(&self) -> bool
+        ensures value { result ≡ self.now.is_whole }
+    {
+        self.is_whole
+    }
+
     /// How often a call of its disk failed.
     pub fn faults(&self) -> u64
         ensures { result ≡ D.fault_count self.now.disk.disk }
@@ -121,12 +144,14 @@ impl<D: Disk> Agent<D> {
     }
 
     /// Lets so many changing calls of its disk pass.
+    #[tactic(auto, using(crate::proofs::Sounding::kept_sound))]
     pub fn fuse(&mut self, calls: u64)
         ensures core { self.new.core ≡ self.old.core }
         ensures module { self.new.module ≡ self.old.module }
         ensures services { self.new.services ≡ self.old.services }
         ensures over { self.new.over ≡ self.old.over }
         ensures kept { self.new.disk.kept ≡ self.old.disk.kept }
+        ensures whole { self.new.is_whole ≡ self.old.is_whole }
     {
         self.disk.fuse(calls);
     }
@@ -145,6 +170,7 @@ impl<D: Disk> Agent<D> {
             base: _,
             role: _,
             over: _,
+            is_whole: _,
         } = self;
         disk.into_disk()
     }

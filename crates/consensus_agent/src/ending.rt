@@ -1,5 +1,6 @@
 // What a member does at a phase's end.
-ghost use Rattle.std.specs.Prelude.{◌≡◌, ◌+◌, ◌-◌, OnOk};
+ghost use Rattle.std.specs.Prelude.{◌≡◌, ◌+◌, ◌-◌, false, IsTrue, OnOk};
+ghost use Rattle.consensus_agent.specs.Rows.{IsKept};
 
 use crate::agent::Agent;
 use crate::fault::AgentFault;
@@ -18,7 +19,8 @@ fn ask_all(
     service: u8,
     outputs: &[(u64, Output)],
 ) -> Result<(), NoMemory>
-    ensures { module.new.consumed ≡ module.old.consumed }
+    ensures consumed { module.new.consumed ≡ module.old.consumed }
+    ensures ahead { module.new.ahead ≡ module.old.ahead }
 {
     for output in outputs {
         match &output.1 {
@@ -35,7 +37,8 @@ fn ask_services(
     index: u64,
     containers: &[Container],
 ) -> Result<(), NoMemory>
-    ensures { module.new.consumed ≡ module.old.consumed }
+    ensures consumed { module.new.consumed ≡ module.old.consumed }
+    ensures ahead { module.new.ahead ≡ module.old.ahead }
 {
     for container in containers {
         let outputs = outputs_at(container.outbox(), index);
@@ -62,20 +65,28 @@ fn send_services(
 impl<D: Disk> Agent<D> {
     /// The module takes the entries that the services consumed, the snapshots of the actions among them are written,
     /// and what is owed to clients is given.
+    #[tactic(auto, using(crate::proofs::Sounding::taken_sound))]
     pub(crate) fn consume(&mut self) -> Result<List<Sent>, AgentFault>
         ensures consumed { OnOk result (self.new.module.consumed ≡ self.old.module.consumed + (self.old.core.values.rest.commit - self.old.module.consumed)) }
         ensures services { self.new.services ≡ self.old.services }
         ensures core { self.new.core ≡ self.old.core }
+        ensures whole { OnOk result (IsTrue self.new.is_whole) }
+        ensures kept { IsKept self.old.disk.kept.node self.old.disk.kept.log self.new.disk.kept }
     {
+        if !self.is_whole {
+            return Err(AgentFault::NoMemory);
+        }
         let first = self.module.consumed();
         let count = self.core.commit().saturating_sub(first);
         let mut sent = List::new(self.alloc);
         let mut actions = List::new(self.alloc);
+        self.is_whole = false;
         for number in 0..count {
             self.take_entry(number, &mut sent, &mut actions)?;
         }
         self.put_all(actions)?;
         self.module.advance(count)?;
+        self.is_whole = true;
         Ok(sent)
     }
 
@@ -86,9 +97,13 @@ impl<D: Disk> Agent<D> {
         sent: &mut List<Sent>,
         actions: &mut List<Action>,
     ) -> Result<(), AgentFault>
+        requires open { self.old.is_whole ≡ false }
         ensures consumed { self.new.module.consumed ≡ self.old.module.consumed }
         ensures services { self.new.services ≡ self.old.services }
         ensures core { self.new.core ≡ self.old.core }
+        ensures open { self.new.is_whole ≡ false }
+        ensures disk { self.new.disk ≡ self.old.disk }
+        ensures ahead { self.new.module.ahead ≡ self.old.module.ahead }
     {
         let index = self.module.consumed().saturating_add(number);
         let number = number as usize;

@@ -1,13 +1,14 @@
 // What is asked of entries and events before they go on.
-ghost use Rattle.std.specs.Prelude.{◌≡◌, All, true};
-ghost use Rattle.log_segment.specs.Held.{IsEventEntry};
+ghost use Rattle.std.specs.Prelude.{◌≡◌, true};
 ghost use Rattle.sbe_consensus.specs.Spelling.{AreEntries, IsEntry};
 ghost use Rattle.sbe_events.specs.Spelling.{HasSpelling, IsNumber};
 
-use crate::batch::EVENT_LIMIT;
 use cl_base::Entry;
 use cl_base::limits::{CHANNEL_LIMIT, NUMBER_LIMIT, PAYLOAD_LIMIT};
 use sbe_events::{Event, event_fault, term_of};
+
+/// The most bytes of an event.
+const EVENT_LIMIT: u64 = 32_768;
 
 /// Whether the bytes of an entry spell an event of its term.
 #[tactic(auto, using(crate::proofs::Entries::some_event, crate::proofs::Entries::entry_is))]
@@ -32,13 +33,6 @@ pub fn are_entries(entries: &[Entry]) -> bool
         return true;
     };
     is_entry(first) && are_entries(rest)
-}
-
-/// The same, by index.
-pub fn are_events(entries: &[Entry]) -> bool
-    ensures { result ≡ true → All IsEventEntry entries.now }
-{
-    are_entries(entries)
 }
 
 /// Whether a term, a position or a stamp is in its range.

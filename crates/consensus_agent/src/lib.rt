@@ -2,7 +2,6 @@
 #![tactic(auto)]
 
 mod agent;
-mod batch;
 mod changes;
 mod clients;
 mod ending;
@@ -18,3 +17,4 @@ pub use agent::Agent;
 pub use fault::AgentFault;
 pub use phases::Fed;
 pub use rows::Delivered;
+

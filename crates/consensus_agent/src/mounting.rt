@@ -1,15 +1,16 @@
 // How a member starts from its disk.
-ghost use Rattle.std.specs.Prelude.{◌≡◌, true, ◌<◌, ◌≤◌, ◌^◌, pos, negsuc, ◌≤ℤ◌, length, unwrap_or, IfOk};
+ghost use Rattle.std.specs.Prelude.{◌≡◌, true, ◌<◌, ◌≤◌, ◌^◌, pos, negsuc, ◌≤ℤ◌, [], length, unwrap_or, IsTrue, IfOk, OnOk};
 ghost use Rattle.member_disk.specs.Changes.{HasSome};
 ghost use Rattle.snapshot_pieces.specs.Pieces.{IsOrigin};
 ghost use Rattle.service_phases.specs.Pairs.{Each};
 ghost use Rattle.service_phases.specs.Phases.{IsAt};
 ghost use Rattle.service_phases.specs.Stages.{IsIdle};
 ghost use Rattle.consensus_agent.specs.Phases.{stage};
+ghost use Rattle.consensus_core.specs.Fit.{IsTerm, started};
+ghost use Rattle.consensus_agent.specs.Sound.{HasAhead};
 ghost use Rattle.consensus_agent.specs.Starts.{IsStart};
 
 use crate::agent::Agent;
-use cl_base::limits::LOG_LIMIT;
 use cl_base::{Disk, MemberFault, NoMemory};
 use commit_counter::Role;
 use consensus_core::Core;
@@ -63,12 +64,14 @@ fn has_set(durable: &Durable) -> bool
 fn set_of<D: Disk>(disk: &mut MemberDisk<D>, service: i32) -> Result<SetEntry, MemberFault>
     requires low { negsuc 0 ≤ℤ service }
     requires high { service ≤ℤ pos 2 }
+    requires whole { IsTrue disk.old.whole }
     ensures kept { disk.new.kept ≡ disk.old.kept }
+    ensures whole { IsTrue disk.new.whole }
     ensures recording { IfOk result (λ e. e.recording < 1024) }
     ensures origin { IfOk result (λ e. IsOrigin (record { service = service; position = e.position; term = e.term })) }
 {
     let is_there = service < disk.durable().services() as i32;
-    if !disk.is_whole() || !has_set(disk.durable()) || !is_there {
+    if !has_set(disk.durable()) || !is_there {
         return Err(MemberFault::NoMemory);
     }
     disk.set_entry(service)
@@ -93,7 +96,9 @@ fn fresh_services(alloc: Global, kinds: &[Kind]) -> Result<Vec<Container>, NoMem
 /// The services and the module before any entry.
 fn fresh(alloc: Global, kinds: &[Kind]) -> Result<Start, NoMemory>
     requires { length kinds.now ≤ 3 }
-    ensures { IfOk result IsStart }
+    ensures start { IfOk result IsStart }
+    ensures base { IfOk result (λ s. s.base ≡ 0) }
+    ensures none { IfOk result (λ s. s.module.ahead.entries ≡ []) }
 {
     let containers = fresh_services(alloc, kinds)?;
     let state = ModuleState::fresh(alloc, kinds.len() as u8)?;
@@ -112,8 +117,11 @@ fn restored_services<D: Disk>(
     disk: &mut MemberDisk<D>,
     entries: Option<u64>,
 ) -> Result<Vec<Container>, MemberFault>
-    requires { length kinds.now ≤ 3 }
-    ensures { IfOk result (λ cs. Each (IsAt (unwrap_or entries 0)) cs.items) }
+    requires few { length kinds.now ≤ 3 }
+    requires whole { IsTrue disk.old.whole }
+    ensures services { IfOk result (λ cs. Each (IsAt (unwrap_or entries 0)) cs.items) }
+    ensures kept { disk.new.kept ≡ disk.old.kept }
+    ensures whole { IsTrue disk.new.whole }
 {
     let mut containers = Vec::new(alloc);
     for (service, kind) in kinds.iter().enumerate() {
@@ -129,22 +137,25 @@ fn restored_services<D: Disk>(
 }
 
 /// The services and the module of the latest valid set of snapshots.
+#[tactic(auto, using(crate::proofs::Entries::length_shape, crate::proofs::Sounding::few))]
 fn restored<D: Disk>(
     alloc: Global,
     kinds: &[Kind],
     disk: &mut MemberDisk<D>,
     latest: SnapshotAt,
 ) -> Result<Start, MemberFault>
-    requires { length kinds.now ≤ 3 }
-    ensures { IfOk result IsStart }
+    requires few { length kinds.now ≤ 3 }
+    requires whole { IsTrue disk.old.whole }
+    ensures start { IfOk result IsStart }
+    ensures within { IfOk result (λ s. s.base ≤ length disk.old.kept.log) }
+    ensures none { IfOk result (λ s. s.module.ahead.entries ≡ []) }
+    ensures kept { disk.new.kept ≡ disk.old.kept }
+    ensures whole { IsTrue disk.new.whole }
 {
     let count = disk.index().entries_to(latest.position);
     let ends = count > 0 && disk.index().end_at(count) == latest.position;
     let entries = if ends { Some(count) } else { None };
     let base = entries.unwrap_or(0);
-    if base > LOG_LIMIT {
-        return Err(MemberFault::NoMemory);
-    }
     let containers = restored_services(alloc, kinds, disk, entries)?;
     let set = set_of(disk, -1)?;
     let source = source_of(&set, -1, entries);
@@ -162,12 +173,16 @@ fn read_ahead<D: Disk>(
     disk: &mut MemberDisk<D>,
     module: &mut MemberModule,
 ) -> Result<(), MemberFault>
-    ensures { module.new.consumed ≡ module.old.consumed }
+    requires whole { IsTrue disk.old.whole }
+    requires within { module.old.consumed ≤ length disk.old.kept.log }
+    requires none { module.old.ahead.entries ≡ [] }
+    ensures consumed { module.new.consumed ≡ module.old.consumed }
+    ensures kept { disk.new.kept ≡ disk.old.kept }
+    ensures whole { IsTrue disk.new.whole }
+    ensures ahead { OnOk result (HasAhead module.new disk.new.kept.log) }
 {
-    for index in module.consumed()..disk.index().entries() {
-        if !disk.is_whole() || index >= disk.index().entries() {
-            return Err(MemberFault::NoMemory);
-        }
+    let entries = disk.index().entries();
+    for index in module.consumed()..entries {
         let entry = disk.read(index)?;
         if module.append(entry).is_err() {
             return Err(MemberFault::NoMemory);
@@ -182,8 +197,13 @@ fn begin<D: Disk>(
     kinds: &[Kind],
     disk: &mut MemberDisk<D>,
 ) -> Result<Start, MemberFault>
-    requires { length kinds.now ≤ 3 }
-    ensures { IfOk result IsStart }
+    requires few { length kinds.now ≤ 3 }
+    requires whole { IsTrue disk.old.whole }
+    ensures start { IfOk result IsStart }
+    ensures within { IfOk result (λ s. s.base ≤ length disk.new.kept.log) }
+    ensures ahead { IfOk result (λ s. HasAhead s.module disk.new.kept.log) }
+    ensures kept { disk.new.kept ≡ disk.old.kept }
+    ensures whole { IsTrue disk.new.whole }
 {
     let latest = match disk.durable().sets().last() {
         Some(latest) => Some(*latest),
@@ -198,6 +218,18 @@ fn begin<D: Disk>(
     };
     read_ahead(disk, &mut start.module)?;
     Ok(start)
+}
+
+/// A member's part in the agreement as it starts, by its disk and the entries of its latest valid set.
+fn core_of(alloc: Global, id: u8, members: u8, durable: &Durable, commit: u64) -> Core
+    requires members { members ≤ 5 }
+    requires id { id < members }
+    ensures core { result ≡ started id members durable.now.node.term durable.now.node.voted commit }
+    ensures range { IsTerm durable.now.node.term }
+{
+    let candidate = durable.candidate_term();
+    let voted = durable.voted();
+    Core::new(alloc, id, members, candidate, voted, commit)
 }
 
 impl<D: Disk> Agent<D> {
@@ -218,17 +250,18 @@ impl<D: Disk> Agent<D> {
         requires few { length kinds.now ≤ 3 }
         ensures idle { IfOk result (λ a. IsIdle (stage a.services a.module a.core a.over)) }
         ensures based { IfOk result (λ a. a.module.consumed ≡ a.base) }
+        ensures whole { IfOk result (λ a. IsTrue a.is_whole) }
     {
         let count = kinds.len() as u8;
         let mut disk = MemberDisk::mount(alloc, disk, count)?;
         match begin(alloc, kinds, &mut disk) {
             Ok(start) => {
+                let _entries = disk.index().entries();
                 let durable = disk.durable();
-                let candidate = durable.candidate_term();
-                let voted = durable.voted();
+                let core = core_of(alloc, id, members, durable, start.base);
                 Ok(Agent {
                     alloc,
-                    core: Core::new(alloc, id, members, candidate, voted, start.base),
+                    core,
                     disk,
                     module: start.module,
                     services: Services::new(alloc, start.containers),
@@ -236,6 +269,7 @@ impl<D: Disk> Agent<D> {
                     base: start.base,
                     role: Role::Follower,
                     over: false,
+                    is_whole: true,
                 })
             }
             Err(fault) => Err((disk.into_disk(), fault)),

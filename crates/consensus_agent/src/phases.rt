@@ -1,15 +1,15 @@
 // The phases of a member, in which its services consume what is committed.
-ghost use Rattle.std.specs.Prelude.{◌≡◌, true, Ok, ◌+◌, ◌<◌, ◌≤◌, ◌^◌, [], length, IfOk, OnErr, OnOk};
+ghost use Rattle.std.specs.Prelude.{◌≡◌, true, Ok, ◌+◌, ◌<◌, ◌≤◌, ◌^◌, [], length, IsTrue, IfOk, OnErr, OnOk};
 ghost use Rattle.commit_counter.specs.Ends.{fed_to};
 ghost use Rattle.service_phases.specs.Pairs.{Each, Each2};
 ghost use Rattle.service_phases.specs.Feeds.{FedOn, HasCommit, IsFed};
 ghost use Rattle.service_phases.specs.Phases.{Began, Closed, HasEndedWell, IsAt, containers};
 ghost use Rattle.service_phases.specs.Stages.{Begins, HasRun, IsFeeding, IsIdle, forgot};
 ghost use Rattle.consensus_agent.specs.Phases.{stage};
+ghost use Rattle.consensus_agent.specs.Rows.{IsKept};
 
 use crate::agent::Agent;
 use crate::fault::AgentFault;
-use cl_base::limits::LOG_LIMIT;
 use cl_base::{Disk, Entry, List, NoMemory};
 use commit_counter::{Feed, Role};
 use egress::Sent;
@@ -90,21 +90,23 @@ impl<D: Disk> Agent<D> {
     }
 
     /// Pushes the log to each feed of the phase, and publishes what is committed.
-    #[tactic(auto, using(crate::proofs::Phasing::all_same))]
+    #[tactic(auto, using(crate::proofs::Phasing::all_same, crate::proofs::Sounding::short_ahead))]
     pub fn feed<R: Wait>(&self, rt: &R, feeds: &mut List<Feed>) -> Result<Fed, AgentFault>
         requires phase { IsFeeding (stage self.now.services self.now.module self.now.core self.now.over) feeds.old }
         ensures phase { IsFeeding (stage self.now.services self.now.module self.now.core self.now.over) feeds.new }
         ensures on { Each2 (FedOn self.now.core.values.rest.commit) feeds.old feeds.new }
         ensures over { result ≡ Ok Fed.Over → self.now.over ≡ true }
+        ensures goes_on { IfOk result (λ fed. self.now.over ≡ true → fed ≡ Fed.Over) }
     {
         if self.over {
             return Ok(Fed::Over);
         }
-        let first = self.module.consumed();
-        let ahead = self.module.ahead();
-        if first > LOG_LIMIT || ahead.len() as u64 > LOG_LIMIT {
+        if !self.is_whole {
             return Err(AgentFault::NoMemory);
         }
+        let _entries = self.disk.index().entries();
+        let first = self.module.consumed();
+        let ahead = self.module.ahead();
         let commit = self.core.commit();
         let all = feed_all(rt, feeds.as_mut_slice(), first, ahead, commit)?;
         Ok(if all { Fed::All } else { Fed::Full })
@@ -148,6 +150,8 @@ impl<D: Disk> Agent<D> {
         ensures idle { OnOk result (IsIdle (stage self.new.services self.new.module self.new.core self.new.over)) }
         ensures kept { self.new.services ≡ record { kept = containers served; lent = []; begun = [] } }
         ensures core { self.new.core ≡ self.old.core }
+        ensures whole { OnOk result (IsTrue self.new.is_whole) }
+        ensures durable { IsKept self.old.disk.kept.node self.old.disk.kept.log self.new.disk.kept }
     {
         self.services.end(rt, feeds, served);
         let sent = self.consume()?;

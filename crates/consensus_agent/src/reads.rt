@@ -1,5 +1,5 @@
 // The entries that are read to be sent on.
-ghost use Rattle.std.specs.Prelude.{◌≡◌, true};
+ghost use Rattle.std.specs.Prelude.{◌≡◌, true, IsTrue};
 ghost use Rattle.consensus_agent.specs.Reads.{AreRead};
 
 use crate::fault::AgentFault;
@@ -16,11 +16,13 @@ fn read_range<D: Disk>(
     count: u64,
     batches: &mut List<Entry>,
 ) -> Result<(), AgentFault>
-    ensures { disk.new.kept ≡ disk.old.kept }
+    requires { IsTrue disk.old.whole }
+    ensures kept { disk.new.kept ≡ disk.old.kept }
+    ensures whole { IsTrue disk.new.whole }
 {
     for at in 0..count {
         let index = first.saturating_add(at);
-        if !disk.is_whole() || index >= disk.index().entries() {
+        if index >= disk.index().entries() {
             return Err(AgentFault::NoMemory);
         }
         let entry = disk.read(index)?;
@@ -50,7 +52,9 @@ pub fn read_ranges<D: Disk>(
     disk: &mut MemberDisk<D>,
     ranges: &[(u64, u64)],
 ) -> Result<List<Entry>, AgentFault>
-    ensures { disk.new.kept ≡ disk.old.kept }
+    requires { IsTrue disk.old.whole }
+    ensures kept { disk.new.kept ≡ disk.old.kept }
+    ensures whole { IsTrue disk.new.whole }
 {
     let mut batches = List::new(alloc);
     for range in ranges {

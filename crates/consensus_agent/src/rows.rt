@@ -1,6 +1,6 @@
 // What a member does with a packet, and at a duty.
-ghost use Rattle.std.specs.Prelude.{◌≡◌, ◌≤◌, ◌^◌, true, false, All, IfOk, OnOk, length, pos, ◌≤ℤ◌};
-ghost use Rattle.sbe_events.specs.Spelling.{HasSpelling as IsEvent};
+ghost use Rattle.std.specs.Prelude.{◌≡◌, ◌≤◌, ◌<◌, ◌^◌, ◌++◌, true, false, not, ◌&&◌, ◌||◌, All, IsTrue, IfOk, OnErr, OnOk, length, pos, ◌≤ℤ◌};
+ghost use Rattle.sbe_events.specs.Spelling.{HasSpelling as IsEvent, term_of};
 ghost use Rattle.sbe_consensus.specs.Spelling.{HasSpelling, spelling_of};
 ghost use Rattle.sbe_consensus.specs.declared.packet.Packet.{Packet};
 ghost use Rattle.entry_log.specs.Shape.{end_of, last_term_of, shape_of};
@@ -9,16 +9,16 @@ ghost use Rattle.consensus_agent.specs.Reads.{AreRead};
 ghost use Rattle.consensus_core.specs.declared.change.Change.TheVariants as Change;
 ghost use Rattle.consensus_core.specs.Reign.{does_duty};
 ghost use Rattle.consensus_core.specs.Sendable.{receives};
-ghost use Rattle.consensus_agent.specs.Rows.{IsSpoken, Made, RanDuty, RowRan};
-ghost use Rattle.consensus_agent.specs.Delivered.{RanPacket};
-ghost use Rattle.consensus_agent.specs.Stands.{Stands};
+ghost use Rattle.consensus_core.specs.Member.{is_ready as leads};
+ghost use Rattle.consensus_core.specs.Standing.{CanFollow, Standing};
+ghost use Rattle.consensus_agent.specs.Rows.{CutDuty, CutRow, IsSpoken, Made, RanDuty, RowRan};
+ghost use Rattle.consensus_agent.specs.Delivered.{OnBad, RanPacket, TellsBad};
+ghost use Rattle.consensus_agent.specs.Sound.{CanChange, CanRun, HasAhead, ends_phase, is_cut};
 
 use crate::agent::Agent;
 use crate::changes::{append, cut, raise};
 use crate::fault::AgentFault;
-use crate::guard::is_number;
 use crate::reads::{are_read, read_ranges};
-use cl_base::limits::{LOG_LIMIT, NUMBER_LIMIT};
 use cl_base::{Disk, Entry, List, NoMemory};
 use consensus_core::{Change, Core};
 use entry_log::LogIndex;
@@ -57,7 +57,8 @@ fn speak(
 
 /// The module has these entries ahead.
 fn take_all(module: &mut MemberModule, entries: List<Entry>) -> Result<(), NoMemory>
-    ensures { module.new.consumed ≡ module.old.consumed }
+    ensures consumed { module.new.consumed ≡ module.old.consumed }
+    ensures entries { OnOk result (module.new.ahead.entries ≡ module.old.ahead.entries ++ entries) }
 {
     for entry in entries.into_vec() {
         module.append(entry)?;
@@ -67,11 +68,21 @@ fn take_all(module: &mut MemberModule, entries: List<Entry>) -> Result<(), NoMem
 
 impl<D: Disk> Agent<D> {
     /// Makes a row's change on the disk, and of what is kept of the log.
+    #[tactic(auto, using(crate::proofs::Ahead::ahead_grown, crate::proofs::Ahead::ahead_cut))]
     fn make(&mut self, change: Change) -> Result<(), AgentFault>
+        requires open { self.old.is_whole ≡ false }
+        requires whole { IsTrue self.old.disk.whole }
+        requires can { CanChange change self.old.module.consumed self.old.disk.kept }
+        requires ahead { HasAhead self.old.module self.old.disk.kept.log }
         ensures made { OnOk result (Made change self.old.disk.kept self.new.disk.kept) }
+        ensures cut { OnErr result (CutRow change self.old.disk.kept self.new.disk.kept) }
         ensures core { self.new.core ≡ self.old.core }
         ensures services { self.new.services ≡ self.old.services }
         ensures consumed { self.new.module.consumed ≡ self.old.module.consumed }
+        ensures open { self.new.is_whole ≡ false }
+        ensures whole { OnOk result (IsTrue self.new.disk.whole) }
+        ensures ahead { OnOk result (HasAhead self.new.module self.new.disk.kept.log) }
+        ensures over { OnOk result (self.new.over ≡ (self.old.over || is_cut change)) }
     {
         match change {
             Change::Nothing => Ok(()),
@@ -86,39 +97,46 @@ impl<D: Disk> Agent<D> {
         }
     }
 
+    #[tactic(auto, using(crate::proofs::Ahead::ahead_grown))]
     fn append_all(&mut self, entries: List<Entry>) -> Result<(), AgentFault>
+        requires open { self.old.is_whole ≡ false }
+        requires whole { IsTrue self.old.disk.whole }
+        requires can { CanFollow (shape_of self.old.disk.kept.log) entries }
+        requires ahead { HasAhead self.old.module self.old.disk.kept.log }
         ensures made { OnOk result (Made (Change.Append entries) self.old.disk.kept self.new.disk.kept) }
+        ensures cut { OnErr result (CutRow (Change.Append entries) self.old.disk.kept self.new.disk.kept) }
         ensures core { self.new.core ≡ self.old.core }
         ensures services { self.new.services ≡ self.old.services }
         ensures consumed { self.new.module.consumed ≡ self.old.module.consumed }
+        ensures open { self.new.is_whole ≡ false }
+        ensures whole { OnOk result (IsTrue self.new.disk.whole) }
+        ensures ahead { OnOk result (HasAhead self.new.module self.new.disk.kept.log) }
+        ensures over { self.new.over ≡ self.old.over }
     {
         append(&mut self.disk, entries.as_slice())?;
         take_all(&mut self.module, entries)?;
         Ok(())
     }
 
-    /// Whether the commit is within the log, and the log within its limits.
-    pub(crate) fn stands(&self) -> bool
-        ensures { result ≡ true → Stands self.now.core.values.rest.commit (self.now.disk.kept.log) }
-    {
-        let index = self.disk.index();
-        self.core.commit() <= index.entries()
-            && index.place() <= LOG_LIMIT
-            && index.last_term() <= NUMBER_LIMIT as i64
-    }
-
     /// The packets of the row just run, whose change is on the disk.
+    #[tactic(auto, using(crate::proofs::Sounding::term_low, crate::proofs::Sounding::bound_of))]
     fn send(&mut self) -> Result<List<Outgoing>, AgentFault>
+        requires open { self.old.is_whole ≡ false }
+        requires whole { IsTrue self.old.disk.whole }
+        requires stands { Standing self.old.core.values (shape_of self.old.disk.kept.log) }
         ensures sent { IfOk result (IsSpoken self.old.core (shape_of self.old.disk.kept.log)) }
         ensures values { OnOk result (self.new.core.values ≡ self.old.core.values) }
         ensures disk { self.new.disk.kept ≡ self.old.disk.kept }
         ensures services { self.new.services ≡ self.old.services }
         ensures module { self.new.module ≡ self.old.module }
         ensures over { self.new.over ≡ self.old.over }
+        ensures open { self.new.is_whole ≡ false }
+        ensures whole { IsTrue self.new.disk.whole }
+        ensures bound { self.old.core.values.rest.commit ≤ 16777216 }
     {
         let ranges = self.core.wanted(self.disk.index())?;
         let batches = read_ranges(self.alloc, &mut self.disk, ranges.as_slice())?;
-        if !self.stands() || !are_read(ranges.as_slice(), batches.as_slice()) {
+        if !are_read(ranges.as_slice(), batches.as_slice()) {
             return Err(AgentFault::NoMemory);
         }
         let packets = speak(
@@ -130,21 +148,16 @@ impl<D: Disk> Agent<D> {
         Ok(packets)
     }
 
-    /// Whether the commit didn't fall, and didn't rise where the phase that ran is over now.
-    fn goes_on(&self, commit: u64, over: bool) -> bool
-        ensures rises { result ≡ true → commit ≤ self.now.core.values.rest.commit }
-        ensures over { result ≡ true → self.now.over ≡ true → over ≡ false → self.now.core.values.rest.commit ≡ commit }
-    {
-        let now = self.core.commit();
-        commit <= now && (!self.over || over || commit == now)
-    }
-
     /// What becoming ready to lead, or no longer leading, means for the module and the phase.
     fn settle(&mut self, was_ready: bool, now: u64)
+        requires open { self.old.is_whole ≡ false }
         ensures core { self.new.core ≡ self.old.core }
         ensures disk { self.new.disk ≡ self.old.disk }
         ensures services { self.new.services ≡ self.old.services }
         ensures consumed { self.new.module.consumed ≡ self.old.module.consumed }
+        ensures ahead { self.new.module.ahead ≡ self.old.module.ahead }
+        ensures over { self.new.over ≡ (self.old.over || (leads self.old.core.values.election.state && not was_ready)) }
+        ensures open { self.new.is_whole ≡ false }
     {
         if !self.is_ready() {
             self.module.rest();
@@ -154,38 +167,76 @@ impl<D: Disk> Agent<D> {
         }
     }
 
+    /// Makes the change of the row that the core just ran, which the disk can make, and gives the row's packets.
+    #[tactic(auto, using(crate::proofs::Sounding::stands_again, crate::proofs::Sounding::made_stands, crate::proofs::Sounding::over_of))]
+    fn finish(
+        &mut self,
+        change: Change,
+        was_ready: bool,
+        now: u64,
+    ) -> Result<List<Outgoing>, AgentFault>
+        requires open { self.old.is_whole ≡ false }
+        requires whole { IsTrue self.old.disk.whole }
+        requires can { CanRun change self.old.core.values self.old.disk.kept self.old.module.consumed }
+        requires ahead { HasAhead self.old.module self.old.disk.kept.log }
+        ensures made { OnOk result (Made change self.old.disk.kept self.new.disk.kept) }
+        ensures cut { OnErr result (CutRow change self.old.disk.kept self.new.disk.kept) }
+        ensures values { OnOk result (self.new.core.values ≡ self.old.core.values) }
+        ensures sent { IfOk result (IsSpoken self.old.core (shape_of self.new.disk.kept.log)) }
+        ensures services { self.new.services ≡ self.old.services }
+        ensures consumed { self.new.module.consumed ≡ self.old.module.consumed }
+        ensures over { OnOk result (self.new.over ≡ (self.old.over || ends_phase was_ready change self.old.core.values.election.state)) }
+        ensures whole { OnOk result (IsTrue self.new.is_whole) }
+        ensures bound { OnOk result (self.old.core.values.rest.commit ≤ 16777216) }
+    {
+        self.make(change)?;
+        self.settle(was_ready, now);
+        let packets = self.send()?;
+        self.is_whole = true;
+        Ok(packets)
+    }
+
     /// Takes a packet: its row's change, and then its packets.
+    #[tactic(auto, using(crate::proofs::Sounding::packet_runs))]
     fn take_packet(&mut self, packet: &Packet, now: u64) -> Result<List<Outgoing>, AgentFault>
+        requires whole { IsTrue self.old.is_whole }
         requires now { now ≤ 2 ^ 60 }
         requires spelled { HasSpelling packet.now }
         ensures row { IfOk result (RowRan (receives self.old.core.values (shape_of self.old.disk.kept.log) packet.now now) self.old.disk.kept self.new.disk.kept self.new.core.values) }
+        ensures cut { OnErr result (CutRow (receives self.old.core.values (shape_of self.old.disk.kept.log) packet.now now).change self.old.disk.kept self.new.disk.kept) }
         ensures services { self.new.services ≡ self.old.services }
         ensures consumed { self.new.module.consumed ≡ self.old.module.consumed }
         ensures rises { OnOk result (self.old.core.values.rest.commit ≤ self.new.core.values.rest.commit) }
+        ensures bound { OnOk result (self.new.core.values.rest.commit ≤ 16777216) }
         ensures over { OnOk result (self.new.over ≡ true → self.old.over ≡ false → self.new.core.values.rest.commit ≡ self.old.core.values.rest.commit) }
+        ensures whole { OnOk result (IsTrue self.new.is_whole) }
     {
         let was_ready = self.is_ready();
-        let commit = self.core.commit();
-        let over = self.over;
         let change = self.core.on_packet(self.disk.index(), packet, now)?;
-        self.make(change)?;
-        self.settle(was_ready, now);
-        if !self.goes_on(commit, over) {
-            return Err(AgentFault::NoMemory);
-        }
-        self.send()
+        self.is_whole = false;
+        self.finish(change, was_ready, now)
     }
 
     /// Takes a packet at `now` (ms, at most 2^60): its row's change, and then its packets. Bytes that are no packet
     /// change nothing.
+    #[tactic(auto, using(crate::proofs::Sounding::sound_bound))]
     pub fn deliver(&mut self, bytes: &[u8], now: u64) -> Result<Delivered, AgentFault>
         requires { now ≤ 2 ^ 60 }
         ensures row { (p : Packet) → HasSpelling p → spelling_of p ≡ bytes.now → IfOk result (RanPacket (receives self.old.core.values (shape_of self.old.disk.kept.log) p now) self.old.disk.kept self.new.disk.kept self.new.core.values) }
+        ensures cut { (p : Packet) → HasSpelling p → spelling_of p ≡ bytes.now → OnErr result (CutRow (receives self.old.core.values (shape_of self.old.disk.kept.log) p now).change self.old.disk.kept self.new.disk.kept) }
         ensures services { self.new.services ≡ self.old.services }
         ensures consumed { self.new.module.consumed ≡ self.old.module.consumed }
         ensures rises { OnOk result (self.old.core.values.rest.commit ≤ self.new.core.values.rest.commit) }
+        ensures bound { self.old.core.values.rest.commit < 2 ^ 62 → OnOk result (self.new.core.values.rest.commit < 2 ^ 62) }
         ensures over { OnOk result (self.new.over ≡ true → self.old.over ≡ false → self.new.core.values.rest.commit ≡ self.old.core.values.rest.commit) }
+        ensures whole { OnOk result (IsTrue self.new.is_whole) }
+        ensures bad { IfOk result (TellsBad bytes.now) }
+        ensures stays { IfOk result (λ d. OnBad d ((self.new.core ≡ self.old.core) × (self.new.disk ≡ self.old.disk) × (self.new.module ≡ self.old.module) × (self.new.over ≡ self.old.over))) }
     {
+        if !self.is_whole {
+            return Err(AgentFault::NoMemory);
+        }
+        let _entries = self.disk.index().entries();
         let packet = match decode_packet(self.alloc, bytes) {
             Ok(packet) => packet,
             Err(DecodeFault::Bad(bad)) => return Ok(Delivered::Bad(bad)),
@@ -195,59 +246,63 @@ impl<D: Disk> Agent<D> {
     }
 
     /// What is due at `now` (ms) to a member that is ready to lead.
+    #[tactic(auto, using(crate::proofs::Sounding::kept_sound, crate::proofs::Due::due_of_term))]
     fn due(&mut self, now: u64) -> Result<List<Event>, AgentFault>
-        requires { now ≤ 2 ^ 60 }
+        requires whole { IsTrue self.old.is_whole }
+        requires now { now ≤ 2 ^ 60 }
         ensures core { self.new.core ≡ self.old.core }
         ensures disk { self.new.disk ≡ self.old.disk }
         ensures services { self.new.services ≡ self.old.services }
         ensures consumed { self.new.module.consumed ≡ self.old.module.consumed }
         ensures spelled { IfOk result (λ es. All IsEvent es) }
+        ensures term { IfOk result (λ es. All (λ e. term_of e ≡ self.old.core.values.election.term) es) }
         ensures over { self.new.over ≡ self.old.over }
+        ensures whole { self.new.is_whole ≡ self.old.is_whole }
     {
         let term = self.core.term();
         if !self.is_ready() {
             return Ok(List::new(self.alloc));
         }
-        if !is_number(&term) {
-            return Err(AgentFault::NoMemory);
-        }
         Ok(self.module.due(term, now)?)
     }
 
     /// The duty of its state, with these due events.
+    #[tactic(auto, using(crate::proofs::Sounding::duty_runs))]
     fn do_duty(&mut self, due: &[Event], now: u64) -> Result<List<Outgoing>, AgentFault>
+        requires whole { IsTrue self.old.is_whole }
         requires now { now ≤ 2 ^ 60 }
         requires due { All IsEvent due.now }
+        requires term { All (λ e. term_of e ≡ self.old.core.values.election.term) due.now }
         ensures row { IfOk result (RowRan (does_duty self.old.core.values (shape_of self.old.disk.kept.log) due.now now) self.old.disk.kept self.new.disk.kept self.new.core.values) }
+        ensures cut { OnErr result (CutRow (does_duty self.old.core.values (shape_of self.old.disk.kept.log) due.now now).change self.old.disk.kept self.new.disk.kept) }
         ensures services { self.new.services ≡ self.old.services }
         ensures consumed { self.new.module.consumed ≡ self.old.module.consumed }
         ensures rises { OnOk result (self.old.core.values.rest.commit ≤ self.new.core.values.rest.commit) }
+        ensures bound { OnOk result (self.new.core.values.rest.commit ≤ 16777216) }
         ensures over { OnOk result (self.new.over ≡ true → self.old.over ≡ false → self.new.core.values.rest.commit ≡ self.old.core.values.rest.commit) }
+        ensures whole { OnOk result (IsTrue self.new.is_whole) }
     {
-        if !self.stands() {
-            return Err(AgentFault::NoMemory);
-        }
         let was_ready = self.is_ready();
-        let commit = self.core.commit();
-        let over = self.over;
         let change = self.core.on_duty(self.disk.index(), due, now)?;
-        self.make(change)?;
-        self.settle(was_ready, now);
-        if !self.goes_on(commit, over) {
-            return Err(AgentFault::NoMemory);
-        }
-        self.send()
+        self.is_whole = false;
+        self.finish(change, was_ready, now)
     }
 
     /// The duty of its state, at `now` (ms, at most 2^60).
     pub fn duty(&mut self, now: u64) -> Result<List<Outgoing>, AgentFault>
         requires { now ≤ 2 ^ 60 }
         ensures row { IfOk result (RanDuty now self.old.core.values self.old.disk.kept self.new.disk.kept self.new.core.values) }
+        ensures cut { OnErr result (CutDuty now self.old.core.values self.old.disk.kept self.new.disk.kept) }
         ensures services { self.new.services ≡ self.old.services }
         ensures consumed { self.new.module.consumed ≡ self.old.module.consumed }
         ensures rises { OnOk result (self.old.core.values.rest.commit ≤ self.new.core.values.rest.commit) }
+        ensures bound { self.old.core.values.rest.commit < 2 ^ 62 → OnOk result (self.new.core.values.rest.commit < 2 ^ 62) }
         ensures over { OnOk result (self.new.over ≡ true → self.old.over ≡ false → self.new.core.values.rest.commit ≡ self.old.core.values.rest.commit) }
+        ensures whole { OnOk result (IsTrue self.new.is_whole) }
     {
+        if !self.is_whole {
+            return Err(AgentFault::NoMemory);
+        }
         let due = self.due(now)?;
         self.do_duty(due.as_slice(), now)
     }

@@ -1,12 +1,13 @@
 // The snapshots of a phase's actions.
-ghost use Rattle.std.specs.Prelude.{◌≡◌, ◌<◌, ◌^◌, true, pos, negsuc, ◌≤ℤ◌, length, All, IfOk};
+ghost use Rattle.std.specs.Prelude.{◌≡◌, ◌<◌, ◌^◌, true, false, pos, negsuc, ◌≤ℤ◌, length, All, IsTrue, IfOk, OnOk};
 ghost use Rattle.snapshot_pieces.specs.Pieces.{IsOrigin};
 ghost use Rattle.member_disk.specs.Changes.{IsHead};
+ghost use Rattle.consensus_agent.specs.Rows.{IsKept};
 
 use crate::agent::Agent;
 use crate::fault::AgentFault;
 use crate::guard::is_number;
-use cl_base::limits::{ACTIONS_LIMIT, LOG_LIMIT, SERVICES_LIMIT};
+use cl_base::limits::{ACTIONS_LIMIT, SERVICES_LIMIT};
 use cl_base::{Bytes, Disk, List, NoMemory};
 use member_disk::{MemberDisk, SnapshotHead};
 use member_module::MemberModule;
@@ -67,9 +68,14 @@ fn recording_of(before: u64, service: i32) -> u64
 impl<D: Disk> Agent<D> {
     /// Writes the snapshots of each action, in order.
     pub(crate) fn put_all(&mut self, actions: List<Action>) -> Result<(), AgentFault>
+        requires open { self.old.is_whole ≡ false }
+        requires whole { IsTrue self.old.disk.whole }
         ensures module { self.new.module ≡ self.old.module }
         ensures services { self.new.services ≡ self.old.services }
         ensures core { self.new.core ≡ self.old.core }
+        ensures open { self.new.is_whole ≡ false }
+        ensures kept { IsKept self.old.disk.kept.node self.old.disk.kept.log self.new.disk.kept }
+        ensures whole { OnOk result (IsTrue self.new.disk.whole) }
     {
         for action in actions.into_vec() {
             self.put_one(action)?;
@@ -79,9 +85,14 @@ impl<D: Disk> Agent<D> {
 
     /// Writes the snapshots of an action: the services by rising number, and the module.
     fn put_one(&mut self, action: Action) -> Result<(), AgentFault>
+        requires open { self.old.is_whole ≡ false }
+        requires whole { IsTrue self.old.disk.whole }
         ensures module { self.new.module ≡ self.old.module }
         ensures services { self.new.services ≡ self.old.services }
         ensures core { self.new.core ≡ self.old.core }
+        ensures open { self.new.is_whole ≡ false }
+        ensures kept { IsKept self.old.disk.kept.node self.old.disk.kept.log self.new.disk.kept }
+        ensures whole { OnOk result (IsTrue self.new.disk.whole) }
     {
         for service in 0..self.count {
             if service < SERVICES_LIMIT {
@@ -96,10 +107,15 @@ impl<D: Disk> Agent<D> {
 
     /// Writes the snapshot of a service.
     fn put_service(&mut self, action: &Action, service: u8) -> Result<(), AgentFault>
-        requires { service < 3 }
+        requires service { service < 3 }
+        requires open { self.old.is_whole ≡ false }
+        requires whole { IsTrue self.old.disk.whole }
         ensures module { self.new.module ≡ self.old.module }
         ensures services { self.new.services ≡ self.old.services }
         ensures core { self.new.core ≡ self.old.core }
+        ensures open { self.new.is_whole ≡ false }
+        ensures kept { IsKept self.old.disk.kept.node self.old.disk.kept.log self.new.disk.kept }
+        ensures whole { OnOk result (IsTrue self.new.disk.whole) }
     {
         let head = self.head_of(action, service as i32)?;
         let Some(container) = self.services.containers().get(service as usize) else {
@@ -116,6 +132,7 @@ impl<D: Disk> Agent<D> {
     }
 
     /// The snapshot entry of a service, or of the module (-1), of an action.
+    #[tactic(auto, using(crate::proofs::Views::front_ends))]
     fn head_of(&self, action: &Action, service: i32) -> Result<SnapshotHead, AgentFault>
         requires low { negsuc 0 ≤ℤ service }
         requires high { service ≤ℤ pos 2 }
@@ -128,9 +145,6 @@ impl<D: Disk> Agent<D> {
             return Err(AgentFault::NoMemory);
         }
         let position = self.disk.index().end_at(entries);
-        if position > LOG_LIMIT {
-            return Err(AgentFault::NoMemory);
-        }
         Ok(SnapshotHead {
             recording: recording_of(action.before, service),
             service,
@@ -152,14 +166,18 @@ fn are_short(pieces: &[Bytes]) -> bool
 }
 
 /// Writes a snapshot.
+#[tactic(auto, using(crate::proofs::There::put_kept))]
 fn put<D: Disk>(
     disk: &mut MemberDisk<D>,
     head: SnapshotHead,
     pieces: &[Bytes],
 ) -> Result<(), AgentFault>
-    requires { IsHead head }
+    requires head { IsHead head }
+    requires whole { IsTrue disk.old.whole }
+    ensures kept { IsKept disk.old.kept.node disk.old.kept.log disk.new.kept }
+    ensures whole { OnOk result (IsTrue disk.new.whole) }
 {
-    if !disk.is_whole() || !are_short(pieces) {
+    if !are_short(pieces) {
         return Err(AgentFault::NoMemory);
     }
     disk.put_snapshot(head, pieces)?;

@@ -1,5 +1,11 @@
-use Rattle.std.proofs.Common.{◌≡◌}
+use Rattle.std.proofs.Common.{◌≡◌, ◌+◌, length}
+use Rattle.std.specs.Prelude.{IsTrue}
 use Rattle.consensus_agent.proofs.mounting.read_ahead.Given as goal
 
 abbrev pub invariant-loop-index : goal.invariant-loop-index
-invariant-loop-index g l = l.module.consumed ≡ l.initial.module.consumed
+invariant-loop-index g l = record {
+  taken : l.module.consumed ≡ l.initial.module.consumed;
+  kept : l.disk.kept ≡ l.initial.disk.kept;
+  whole : IsTrue l.disk.whole;
+  ahead : l.module.consumed + length l.module.ahead.entries ≡ l.index;
+}

@@ -1,0 +1,34 @@
+use Rattle.std.proofs.Common.{◌≡◌, ap}
+use Rattle.entry_log.specs.Shape.{shape_of}
+use Rattle.consensus_core.specs.declared.row.Row.{Row}
+use Rattle.consensus_core.specs.Reign.{does_duty}
+use Rattle.consensus_agent.proofs.Commits.{duty_moves}
+use Rattle.consensus_agent.proofs.Running.{Gave, gave, can_run, rises, still, on_ok, on_both}
+use Rattle.consensus_agent.proofs.Sounding.{duty_runs}
+use Rattle.consensus_agent.proofs.agent.Agent.do_duty.Goals as goal
+
+pub finish-requires-clause-can : goal.finish-requires-clause-can
+finish-requires-clause-can g c =
+    let row : Row = does_duty c.args.self.now.core.values (shape_of c.args.self.now.disk.kept.log) c.args.due.now c.args.now in
+    let own : Row = does_duty c.args.self.now.core.values c.index.result.now c.args.due.now c.args.now in
+    let same : own ≡ row = ap (λ xs. does_duty c.args.self.now.core.values xs c.args.due.now c.args.now) c.index.ensures.index in
+    let gives = gave row own c.in_ok-change.change c.on_duty.new.self same c.in_ok-change.ensures.change c.in_ok-change.ensures.values in
+    can_run row c.in_ok-change.change c.on_duty.new.self c.args.self.now.disk.kept c.args.self.now.«module».consumed gives
+    (duty_runs c.args.self.now.core.values c.args.self.now.disk.kept c.args.self.now.disk.whole c.args.self.now.«module» c.args.due.now c.args.now c.requires.now c.requires.due c.requires.term (c.args.self.now.sound c.requires.whole))
+
+pub returns-clause-rises : goal.returns-clause-rises
+returns-clause-rises g c =
+    let row : Row = does_duty c.args.self.now.core.values (shape_of c.args.self.now.disk.kept.log) c.args.due.now c.args.now in
+    let own : Row = does_duty c.args.self.now.core.values c.index.result.now c.args.due.now c.args.now in
+    let same : own ≡ row = ap (λ xs. does_duty c.args.self.now.core.values xs c.args.due.now c.args.now) c.index.ensures.index in
+    let gives = gave row own c.in_ok-change.change c.on_duty.new.self same c.in_ok-change.ensures.change c.in_ok-change.ensures.values in
+    on_ok c.finish.result (λ h. rises c.args.self.now.core.values c.finish.new.self.core.values row c.in_ok-change.change c.on_duty.new.self gives (duty_moves c.args.self.now.core.values (shape_of c.args.self.now.disk.kept.log) c.args.due.now c.args.now) h) c.finish.ensures.values
+
+pub returns-clause-over : goal.returns-clause-over
+returns-clause-over g c =
+    let row : Row = does_duty c.args.self.now.core.values (shape_of c.args.self.now.disk.kept.log) c.args.due.now c.args.now in
+    let own : Row = does_duty c.args.self.now.core.values c.index.result.now c.args.due.now c.args.now in
+    let same : own ≡ row = ap (λ xs. does_duty c.args.self.now.core.values xs c.args.due.now c.args.now) c.index.ensures.index in
+    let gives = gave row own c.in_ok-change.change c.on_duty.new.self same c.in_ok-change.ensures.change c.in_ok-change.ensures.values in
+    on_both c.finish.result (λ h o. still c.args.self.now.core.values c.finish.new.self.core.values row c.in_ok-change.change c.on_duty.new.self c.is_ready-was_ready.result c.args.self.now.over c.finish.new.self.over gives
+    (duty_moves c.args.self.now.core.values (shape_of c.args.self.now.disk.kept.log) c.args.due.now c.args.now) h c.is_ready-was_ready.ensures.value o) c.finish.ensures.values c.finish.ensures.over
