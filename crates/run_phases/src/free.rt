@@ -1,5 +1,5 @@
 // Phases that go on beside further calls of the agent.
-ghost use Rattle.std.specs.Prelude.{◌≡◌, List as ListOf, [], false, length, vec_len, vec_capacity, OnOk, IfOk};
+ghost use Rattle.std.specs.Prelude.{◌≡◌, List as ListOf, [], true, false, length, vec_len, vec_capacity, OnOk, IfOk};
 ghost use Rattle.consensus_agent.specs.Phases.{stage};
 ghost use Rattle.run_phases.specs.Frees.{HasRoom, IsFree, IsGoing};
 ghost use Rattle.service_container.specs.declared.container.Served.{Served as Job};
@@ -77,6 +77,7 @@ pub fn free_begin<
     requires gates { length gates ≡ length agent.old.services.kept }
     ensures free { IfOk result (λ p. IsFree (stage agent.new.services agent.new.module agent.new.core agent.new.over) p) }
     ensures going { IfOk result (λ p. IsGoing (stage agent.new.services agent.new.module agent.new.core agent.new.over) p.feeds) }
+    ensures on { IfOk result (λ _. agent.new.over ≡ false) }
 {
     let mut gates = gates.into_vec();
     let mut hands = Vec::with_capacity(alloc, gates.len())?;
@@ -103,6 +104,7 @@ fn go_on<R: Threads + Wait + Copy + Send + Sync + 'static, D: Disk, G: Gate + Se
     requires on { agent.old.over ≡ false }
     ensures free { IsFree (stage agent.new.services agent.new.module agent.new.core agent.new.over) phase.new }
     ensures going { OnOk result (IsGoing (stage agent.new.services agent.new.module agent.new.core agent.new.over) phase.new.feeds) }
+    ensures over { OnOk result (agent.new.over ≡ agent.old.over) }
 {
     phase.come_back(rt);
     let whole = have_ended(phase.jobs.as_slice());
@@ -129,8 +131,8 @@ fn go_on<R: Threads + Wait + Copy + Send + Sync + 'static, D: Disk, G: Gate + Se
     Ok(())
 }
 
-/// Feeds a free phase, after each call of its agent, until every feed has published the agent's commit. After NoMemory
-/// the phase is gone.
+/// Feeds a free phase, after each call of its agent, until every feed has published the agent's commit. Over exactly
+/// where the phase is over. After NoMemory the phase is gone.
 pub fn free_feed<
     R: Threads + Wait + Copy + Send + Sync + 'static,
     D: Disk,
@@ -141,6 +143,8 @@ pub fn free_feed<
     ensures free { IsFree (stage agent.new.services agent.new.module agent.new.core agent.new.over) phase.new }
     ensures going { OnOk result (IsGoing (stage agent.new.services agent.new.module agent.new.core agent.new.over) phase.new.feeds) }
     ensures published { OnOk result (Each (HasCommit (stage agent.new.services agent.new.module agent.new.core agent.new.over).commit) phase.new.feeds) }
+    ensures over { OnOk result (agent.new.over ≡ agent.old.over) }
+    ensures goes_on { IfOk result (λ fed. agent.new.over ≡ true → fed ≡ Fed.Over) }
 {
     for _ in rt.forever() {
         let fed = agent.feed(rt, &mut phase.feeds)?;
