@@ -1,0 +1,4 @@
+pub mod States
+pub mod Handing
+pub mod Listed
+pub mod Opening
