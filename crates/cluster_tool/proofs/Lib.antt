@@ -1,0 +1,7 @@
+pub mod Chains
+pub mod Sinks
+pub mod Spelled
+pub mod Logs
+pub mod Reading
+pub mod Ending
+pub mod Equal

@@ -1,0 +1,11 @@
+use Rattle.std.proofs.Common.{ℕ, List, [], ◌++◌, subst}
+use Rattle.run_report.specs.Written.{Adds}
+use Rattle.run_report.proofs.Telling.{adds_stops}
+use Rattle.cluster_tool.specs.declared.line.Line.TheVariants as line
+use Rattle.cluster_tool.specs.Text.{line_text}
+use Rattle.cluster_tool.proofs.verify.write.Goals as goal
+
+pub returns-in_err-line : goal.returns-in_err-line
+returns-in_err-line g c =
+    subst (λ (p : List ℕ). Adds {T = Unit {0}} g.O.Sink.tells g.O.Sink.held g.O.Sink.fault_count c.args.sink.now c.line.new.sink p [] (line_text (line.Compared c.args.comparison) ++ line_text line.Done) c.from_residual.result) c.new-page.ensures
+    (adds_stops g.O.Sink.tells g.O.Sink.held g.O.Sink.fault_count _ _ _ _ _ _ (line_text line.Done) _ _ _ c.in_err-line.was c.from_residual.ensures c.line.ensures)
