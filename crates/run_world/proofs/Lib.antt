@@ -1,0 +1,13 @@
+pub mod Flown
+pub mod Printed
+pub mod Shown
+pub mod Towards
+pub mod Spelled
+pub mod Rows
+pub mod Starts
+pub mod Begun
+pub mod Queues
+pub mod Calls
+pub mod Phases
+pub mod Acts
+pub mod Rounded

@@ -1,0 +1,5 @@
+pub mod Seat
+pub mod RunWorld
+pub mod Lawful
+pub mod Headline
+pub mod Rounds
