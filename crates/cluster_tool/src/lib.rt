@@ -13,8 +13,6 @@ mod page;
 mod read;
 mod recorded;
 mod status;
-#[cfg(test)]
-mod tests;
 mod top;
 mod verify;
 mod words;
