@@ -1,0 +1,10 @@
+use Rattle.cluster_run.proofs.Sinks.{writes_then, writes_stops, writes_of}
+use Rattle.cluster_run.proofs.cluster.Cluster.report_streams.Goals as goal
+
+pub returns-in_err-stream : goal.returns-in_err-stream
+returns-in_err-stream g c =
+    writes_stops g.O.Sink.tells g.O.Sink.held g.O.Sink.fault_count _ _ _ _ _ c.in_err-stream.was c.from_residual.ensures
+    (writes_then g.O.Sink.tells g.O.Sink.held g.O.Sink.fault_count _ _ _ _ _ c.each.invariant (writes_of g.O.Sink.tells g.O.Sink.held g.O.Sink.fault_count _ _ _ _ _ _ c.stream.ensures))
+
+pub each-preserved : goal.each-preserved
+each-preserved g c = writes_then g.O.Sink.tells g.O.Sink.held g.O.Sink.fault_count _ _ _ _ _ c.each.invariant (writes_of g.O.Sink.tells g.O.Sink.held g.O.Sink.fault_count _ _ _ _ _ _ c.in_ok-stream.ensures)

@@ -1,0 +1,8 @@
+use Rattle.cluster_run.proofs.Sinks.{writes_then, writes_stops}
+use Rattle.cluster_run.proofs.cluster.Cluster.run_orders.Goals as goal
+
+pub returns-in_err-flush_after : goal.returns-in_err-flush_after
+returns-in_err-flush_after g c = writes_stops g.O.Sink.tells g.O.Sink.held g.O.Sink.fault_count _ _ _ _ _ c.in_err-flush_after.was c.from_residual.ensures c.flush_after.ensures
+
+pub returns : goal.returns
+returns g c = writes_then g.O.Sink.tells g.O.Sink.held g.O.Sink.fault_count _ _ _ _ _ c.in_ok-flush_after.ensures c.run_begun.ensures

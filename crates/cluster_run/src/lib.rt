@@ -1,0 +1,24 @@
+//! The whole run: a scenario's members run on disks of their own, exchange packets, take orders and time, run their
+//! services, and the run is written as it goes.
+#![tactic(auto)]
+
+mod calls;
+mod clients;
+mod clock;
+mod cluster;
+mod disks;
+mod free;
+mod orders;
+mod outside;
+mod reporting;
+mod rounds;
+mod running;
+mod seat;
+mod site;
+mod status;
+mod task;
+mod telling;
+mod top;
+
+pub use status::Status;
+pub use top::{check_main, cluster_main};

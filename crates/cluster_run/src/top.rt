@@ -1,0 +1,324 @@
+// The top calls.
+ghost use Rattle.std.specs.Prelude.{◌≡◌, ◌≤◌, ◌<◌, ◌++◌, ◌⊎◌, ℕ, IsTrue, true, IfOk, IfErr, IfSome, IsSome, None, Some, Ok, Option, List, map, string_bytes, length};
+ghost use Rattle.cl_base.specs.Counts.{Rose};
+ghost use Rattle.plan.specs.Words.{plan_of};
+ghost use Rattle.run_report.specs.Written.{IsFront};
+ghost use Rattle.scenario.specs.Orders.{members_of as members_in, orders_of};
+ghost use Rattle.echo_run.specs.Form.{unbuilt};
+ghost use Rattle.echo_run.specs.Reported.{run_text};
+ghost use Rattle.scenario.specs.declared.fault.Cause.{Cause};
+ghost use Rattle.cluster_run.specs.Status.{status_text, IsRefusal, IsOrGivesUp};
+ghost use Rattle.cluster_run.specs.Begins.{CannotBegin, FormatFails, IsEnd, IsRun, Ends};
+ghost use Rattle.cluster_run.specs.Disks.{RoseAt, IsUsedAt};
+ghost use Rattle.cluster_run.specs.Reading.{IsFaulty, IsChecked, AreOrders};
+ghost use Rattle.scenario.specs.Printing.{printed};
+ghost use Rattle.scenario.specs.declared.order.Order.{Order as OneOrder};
+ghost use Rattle.cluster_run.specs.Sinks.{Writes};
+
+use crate::Status;
+use crate::cluster::Cluster;
+use crate::disks::{format_all, give_back, seated, used};
+use crate::site::Site;
+use crate::task::{kinds_of, members_of, read_orders};
+use cl_base::{Bytes, Disk, List, NoMemory, Sink, Source, Trouble};
+use echo_run::echoed;
+use plan::{Plan, WordsFault, plan_words};
+use run_report::give;
+use scenario::{Order, make, parse, print};
+use std::alloc::Global;
+use std::mem;
+use std::sync::Wait;
+use std::thread::Threads;
+
+/// What is run, and what is written of it.
+#[derive(Drop)]
+struct Task {
+    orders: List<Order>,
+    /// The number of messages of a generated scenario, whose summary alone is written.
+    made: Option<u64>,
+    /// A scenario of the one form whose whole text is proved may be run as that, since nobody looks at its disks.
+    may_echo: bool,
+}
+
+/// The members and services that orders name.
+fn site_of(alloc: Global, members: u64, orders: &[Order]) -> Result<Site, Status>
+    ensures { IfErr result (λ s. s ≡ Status.NoMemory) }
+{
+    let Ok(kinds) = kinds_of(alloc, orders) else {
+        return Err(Status::NoMemory);
+    };
+    match Site::new(alloc, members, kinds) {
+        Some(site) => Ok(site),
+        None => Err(Status::NoMemory),
+    }
+}
+
+/// The members and services that orders name, once their disks, which are empty, are formatted.
+fn formatted<D: Disk>(
+    alloc: Global,
+    disks: &mut [D],
+    members: u64,
+    orders: &[Order],
+) -> Result<Site, Status>
+    requires { members ≤ length disks.old }
+    ensures { IfErr result (FormatFails D.fault_count members disks.old disks.new) }
+{
+    match format_all(disks, members as usize) {
+        Some(status) => Err(status),
+        None => site_of(alloc, members, orders),
+    }
+}
+
+/// The members and services that orders name, once their disks are formatted, or why the run can't begin.
+fn prepared<D: Disk>(alloc: Global, disks: &mut [D], orders: &[Order]) -> Result<Site, Status>
+    ensures { IfErr result (CannotBegin D.tells D.state D.fault_count (members_in orders.now) disks.old disks.new) }
+{
+    let members = members_of(orders);
+    let few = disks.len() as u64;
+    if members > few {
+        return Err(Status::FewDisks {
+            members,
+            disks: few,
+        });
+    }
+    match used(disks, members as usize) {
+        Some(status) => Err(status),
+        None => formatted(alloc, disks, members, orders),
+    }
+}
+
+/// The run of a task on its members, whose disks are formatted.
+fn run_members<R: Threads + Wait + Copy + Send + Sync + 'static, O: Sink, D: Disk + Drop>(
+    rt: &R,
+    sink: &mut O,
+    cluster: &mut Cluster<D>,
+    task: &Task,
+) -> Result<(), Trouble>
+    ensures { Writes O.tells O.held O.fault_count sink.old sink.new result }
+{
+    cluster.run_orders(rt, sink, task.orders.as_slice(), task.made.is_none())?;
+    cluster.conclude(sink, task.made)
+}
+
+/// The run of a task on formatted disks, which come back.
+fn run_on<R: Threads + Wait + Copy + Send + Sync + 'static, O: Sink, D: Disk + Drop>(
+    rt: &R,
+    sink: &mut O,
+    disks: &mut Vec<D>,
+    site: Site,
+    task: Task,
+) -> Result<Status, NoMemory>
+    ensures ends { IfOk result IsEnd }
+    ensures write_fault { result ≡ Ok Status.WriteFault → Rose (O.fault_count sink.old) (O.fault_count sink.new) }
+    ensures later { O.fault_count sink.old ≤ O.fault_count sink.new }
+    ensures tells { O.tells sink.new ≡ O.tells sink.old }
+    ensures more { IsTrue (O.tells sink.old) → IsFront (O.held sink.old) (O.held sink.new) }
+{
+    let alloc = site.alloc;
+    let seats = seated(alloc, disks, site.members)?;
+    let mut cluster = Cluster::new(site, seats)?;
+    let ran = run_members(rt, sink, &mut cluster, &task);
+    let seats = mem::replace(&mut cluster.seats, Vec::new(alloc));
+    match ran {
+        Ok(()) => {
+            give_back(rt, seats, disks)?;
+            Ok(Status::Done)
+        }
+        Err(Trouble::Failed) => {
+            give_back(rt, seats, disks)?;
+            Ok(Status::WriteFault)
+        }
+        Err(Trouble::NoMemory) => Err(NoMemory),
+    }
+}
+
+/// All that a task writes, where it is of the form whose whole text is proved.
+fn text_of(alloc: Global, task: &Task) -> Result<Option<Bytes>, NoMemory>
+    ensures text { IfOk result (λ text. IfSome text (λ t. t ≡ run_text task.now.orders)) }
+    ensures form { task.now.may_echo ≡ true → unbuilt task.now.orders ≡ None → IfOk result IsSome }
+{
+    if task.may_echo {
+        return echoed(alloc, task.orders.as_slice());
+    }
+    Ok(None)
+}
+
+/// The run of a task, or why it can't begin.
+fn run_task<R: Threads + Wait + Copy + Send + Sync + 'static, O: Sink, D: Disk + Drop>(
+    rt: &R,
+    alloc: Global,
+    sink: &mut O,
+    disks: &mut Vec<D>,
+    task: Task,
+) -> Status
+    ensures ends { Ends D.tells D.state D.fault_count (members_in task.orders) disks.old.items disks.new.items result }
+    ensures write_fault { result ≡ Status.WriteFault → Rose (O.fault_count sink.old) (O.fault_count sink.new) }
+    ensures echoed { IsTrue (O.tells sink.old) → task.may_echo ≡ true → unbuilt task.orders ≡ None → result ≡ Status.Done → O.held sink.new ≡ O.held sink.old ++ run_text task.orders }
+    ensures refusal { IsTrue (O.tells sink.old) → IsRefusal result → O.held sink.new ≡ O.held sink.old ++ status_text result }
+    ensures more { IsTrue (O.tells sink.old) → IsFront (O.held sink.old) (O.held sink.new) }
+    ensures later { O.fault_count sink.old ≤ O.fault_count sink.new }
+    ensures tells { O.tells sink.new ≡ O.tells sink.old }
+{
+    match prepared(alloc, disks.as_mut_slice(), task.orders.as_slice()) {
+        Ok(site) => match text_of(alloc, &task) {
+            Ok(Some(text)) => Status::Done.after(give(sink, text.as_slice())),
+            Ok(None) => match run_on(rt, sink, disks, site, task) {
+                Ok(status) => status,
+                Err(NoMemory) => Status::NoMemory,
+            },
+            Err(NoMemory) => Status::NoMemory,
+        },
+        Err(status) => status.written(alloc, sink),
+    }
+}
+
+/// The orders of the generated scenario.
+fn made_orders(alloc: Global, messages: u64) -> Result<List<Order>, NoMemory>
+    requires low { 1 ≤ messages }
+    requires high { messages ≤ 20000 }
+{
+    let text = make(alloc, messages)?;
+    match parse(alloc, text.as_slice()) {
+        Ok(orders) => Ok(orders),
+        Err(_) => Err(NoMemory),
+    }
+}
+
+/// The run of a generated scenario.
+fn run_made<R: Threads + Wait + Copy + Send + Sync + 'static, O: Sink, D: Disk + Drop>(
+    rt: &R,
+    alloc: Global,
+    messages: u64,
+    sink: &mut O,
+    disks: &mut Vec<D>,
+) -> Status
+    requires low { 1 ≤ messages }
+    requires high { messages ≤ 20000 }
+    ensures ends { (members : ℕ) × Ends D.tells D.state D.fault_count members disks.old.items disks.new.items result }
+    ensures write_fault { result ≡ Status.WriteFault → Rose (O.fault_count sink.old) (O.fault_count sink.new) }
+    ensures refusal { IsTrue (O.tells sink.old) → IsRefusal result → O.held sink.new ≡ O.held sink.old ++ status_text result }
+    ensures more { IsTrue (O.tells sink.old) → IsFront (O.held sink.old) (O.held sink.new) }
+    ensures later { O.fault_count sink.old ≤ O.fault_count sink.new }
+    ensures tells { O.tells sink.new ≡ O.tells sink.old }
+{
+    match made_orders(alloc, messages) {
+        Ok(orders) => {
+            let task = Task {
+                orders,
+                made: Some(messages),
+                may_echo: false,
+            };
+            run_task(rt, alloc, sink, disks, task)
+        }
+        Err(NoMemory) => Status::NoMemory,
+    }
+}
+
+/// The orders of a source are written.
+fn check_source<I: Source, O: Sink>(alloc: Global, source: &mut I, sink: &mut O) -> Status
+    ensures ends { IsChecked (I.tells source.old) (I.left source.old) (I.fault_count source.old) (I.fault_count source.new) result }
+    ensures write_fault { result ≡ Status.WriteFault → Rose (O.fault_count sink.old) (O.fault_count sink.new) }
+    ensures refusal { IsTrue (O.tells sink.old) → IsRefusal result → O.held sink.new ≡ O.held sink.old ++ status_text result }
+    ensures checked { IsTrue (O.tells sink.old) → result ≡ Status.Done → (orders : List OneOrder) × AreOrders (I.tells source.old) (I.left source.old) orders × (O.held sink.new ≡ O.held sink.old ++ printed orders) }
+    ensures more { IsTrue (O.tells sink.old) → IsFront (O.held sink.old) (O.held sink.new) }
+    ensures source_later { I.fault_count source.old ≤ I.fault_count source.new }
+    ensures sink_later { O.fault_count sink.old ≤ O.fault_count sink.new }
+    ensures source_tells { I.tells source.new ≡ I.tells source.old }
+    ensures sink_tells { O.tells sink.new ≡ O.tells sink.old }
+{
+    match read_orders(alloc, source) {
+        Ok(orders) => match print(alloc, orders.as_slice()) {
+            Ok(text) => Status::Done.after(give(sink, text.as_slice())),
+            Err(NoMemory) => Status::NoMemory,
+        },
+        Err(status) => status.written(alloc, sink),
+    }
+}
+
+/// Runs the scenario that a source gives, or a generated one, on these disks, which are empty, and writes the order
+/// lines and the report, the summary, or the one line of a refusal. The answers stand in `Status`. `check` and every
+/// other list of words are answered as by `check_main`.
+pub fn cluster_main<
+    R: Threads + Wait + Copy + Send + Sync + 'static,
+    I: Source,
+    O: Sink,
+    D: Disk + Drop,
+>(
+    rt: &R,
+    alloc: Global,
+    words: &[String],
+    source: &mut I,
+    sink: &mut O,
+    disks: &mut Vec<D>,
+) -> Status
+    ensures usage { result ≡ Status.Usage → plan_of (map string_bytes words.now) ≡ None }
+    ensures usage_exactly { plan_of (map string_bytes words.now) ≡ None → IsOrGivesUp result Status.Usage }
+    ensures ends { (dir : Option (List ℕ)) → plan_of (map string_bytes words.now) ≡ Some (Plan.Run dir) → IsRun D.tells D.state D.fault_count disks.old.items disks.new.items (I.tells source.old) (I.left source.old) (I.fault_count source.old) (I.fault_count source.new) result }
+    ensures read_fault { result ≡ Status.ReadFault → Rose (I.fault_count source.old) (I.fault_count source.new) }
+    ensures write_fault { result ≡ Status.WriteFault → Rose (O.fault_count sink.old) (O.fault_count sink.new) }
+    ensures too_long { IsTrue (I.tells source.old) → result ≡ Status.TooLong → 1048576 < length (I.left source.old) }
+    ensures refused { (line : ℕ) → (cause : Cause) → result ≡ Status.Refused line cause → IsFaulty (I.tells source.old) (I.left source.old) line cause }
+    ensures few_disks { (members : ℕ) → (few : ℕ) → result ≡ Status.FewDisks members few → (few ≡ length disks.old.items) × (few < members) }
+    ensures used { (member : ℕ) → (file : ℕ) → result ≡ Status.Used member file → IsUsedAt D.tells D.state disks.old.items member file }
+    ensures disk_fault { (member : ℕ) → result ≡ Status.DiskFault member → RoseAt D.fault_count disks.old.items disks.new.items member }
+
+    // One member with the echo service, on disks of which no folder is named: the text is that of its world.
+    ensures echoed { IsTrue (I.tells source.old) → IsTrue (O.tells sink.old) → plan_of (map string_bytes words.now) ≡ Some (Plan.Run None) → result ≡ Status.Done → unbuilt (orders_of (I.left source.old)) ≡ None → O.held sink.new ≡ O.held sink.old ++ run_text (orders_of (I.left source.old)) }
+
+    // What a sink that tells then holds: the one line of a refusal, and always what it held and more.
+    ensures refusal { IsTrue (O.tells sink.old) → IsRefusal result → O.held sink.new ≡ O.held sink.old ++ status_text result }
+    ensures more { IsTrue (O.tells sink.old) → IsFront (O.held sink.old) (O.held sink.new) }
+
+    ensures source_later { I.fault_count source.old ≤ I.fault_count source.new }
+    ensures sink_later { O.fault_count sink.old ≤ O.fault_count sink.new }
+    ensures source_tells { I.tells source.new ≡ I.tells source.old }
+    ensures sink_tells { O.tells sink.new ≡ O.tells sink.old }
+{
+    match plan_words(alloc, words) {
+        Ok(Plan::Run { dir }) => match read_orders(alloc, source) {
+            Ok(orders) => {
+                let task = Task {
+                    orders,
+                    made: None,
+                    may_echo: dir.is_none(),
+                };
+                run_task(rt, alloc, sink, disks, task)
+            }
+            Err(status) => status.written(alloc, sink),
+        },
+        Ok(Plan::Make { n, dir: _ }) => run_made(rt, alloc, n, sink, disks),
+        Ok(Plan::Check) => check_source(alloc, source, sink),
+        Err(WordsFault::Usage) => Status::Usage.written(alloc, sink),
+        Err(WordsFault::NoMemory) => Status::NoMemory,
+    }
+}
+
+/// Reads the scenario that a source gives, and writes its orders, one a line. Every other list of words than `check` is
+/// no command's.
+pub fn check_main<I: Source, O: Sink>(
+    alloc: Global,
+    words: &[String],
+    source: &mut I,
+    sink: &mut O,
+) -> Status
+    ensures usage { result ≡ Status.Usage → plan_of (map string_bytes words.now) ≡ Some Plan.Check → ⊥ }
+    ensures usage_exactly { (plan_of (map string_bytes words.now) ≡ Some Plan.Check → ⊥) → IsOrGivesUp result Status.Usage }
+    ensures ends { plan_of (map string_bytes words.now) ≡ Some Plan.Check → IsChecked (I.tells source.old) (I.left source.old) (I.fault_count source.old) (I.fault_count source.new) result }
+    ensures write_fault { result ≡ Status.WriteFault → Rose (O.fault_count sink.old) (O.fault_count sink.new) }
+    ensures checked { IsTrue (O.tells sink.old) → result ≡ Status.Done → (orders : List OneOrder) × AreOrders (I.tells source.old) (I.left source.old) orders × (O.held sink.new ≡ O.held sink.old ++ printed orders) }
+
+    // What a sink that tells then holds: the one line of a refusal, and always what it held and more.
+    ensures refusal { IsTrue (O.tells sink.old) → IsRefusal result → O.held sink.new ≡ O.held sink.old ++ status_text result }
+    ensures more { IsTrue (O.tells sink.old) → IsFront (O.held sink.old) (O.held sink.new) }
+
+    ensures source_later { I.fault_count source.old ≤ I.fault_count source.new }
+    ensures sink_later { O.fault_count sink.old ≤ O.fault_count sink.new }
+    ensures source_tells { I.tells source.new ≡ I.tells source.old }
+    ensures sink_tells { O.tells sink.new ≡ O.tells sink.old }
+{
+    match plan_words(alloc, words) {
+        Ok(Plan::Check) => check_source(alloc, source, sink),
+        Ok(_) | Err(WordsFault::Usage) => Status::Usage.written(alloc, sink),
+        Err(WordsFault::NoMemory) => Status::NoMemory,
+    }
+}
