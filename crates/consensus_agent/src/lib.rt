@@ -17,4 +17,3 @@ pub use agent::Agent;
 pub use fault::AgentFault;
 pub use phases::Fed;
 pub use rows::Delivered;
-
