@@ -2,19 +2,14 @@
 //! services, and the run is written as it goes.
 #![tactic(auto)]
 
-mod calls;
 mod clients;
 mod clock;
 mod cluster;
 mod disks;
 mod free;
 mod orders;
-mod outside;
 mod reporting;
 mod rounds;
-mod running;
-mod seat;
-mod site;
 mod status;
 mod task;
 mod telling;
