@@ -1,11 +1,14 @@
 // The calls of a running member.
-ghost use Rattle.std.specs.Prelude.{◌≡◌, ◌≤◌, ◌<◌, ◌^◌, true, false, OnOk};
+ghost use Rattle.std.specs.Prelude.{◌≤◌, ◌^◌};
+ghost use Rattle.run_seats.specs.Calls.{Called};
 
+use crate::member::Member;
 use crate::outside::Outside;
-use cl_base::{Disk, NoMemory};
-use consensus_agent::{Agent, AgentFault, Delivered};
+use cl_base::{Disk, List, NoMemory};
+use consensus_agent::{AgentFault, Delivered};
 use egress::Sent;
 use ingress::Outcome;
+use sbe_consensus::Outgoing;
 
 /// What a running member is asked.
 #[derive(Clone, Copy)]
@@ -41,58 +44,84 @@ impl Outside {
     }
 }
 
-/// Calls a member. Its packets are in flight then, its answers are sent, and what it has committed is printed. A client
-/// and an operator get an outcome.
-pub(crate) fn ask<D: Disk>(
-    agent: &mut Agent<D>,
-    outside: &mut Outside,
-    call: Call<'_>,
-) -> Result<Option<Outcome>, AgentFault>
-    ensures services { agent.new.services ≡ agent.old.services }
-    ensures consumed { agent.new.module.consumed ≡ agent.old.module.consumed }
-    ensures rises { OnOk result (agent.old.core.values.rest.commit ≤ agent.new.core.values.rest.commit) }
-    ensures bound { agent.old.core.values.rest.commit < 2 ^ 62 → OnOk result (agent.new.core.values.rest.commit < 2 ^ 62) }
-    ensures over { OnOk result (agent.new.over ≡ true → agent.old.over ≡ false → agent.new.core.values.rest.commit ≡ agent.old.core.values.rest.commit) }
-{
-    let outcome = answer_of(agent, outside, call)?;
-    outside.print(agent.consumed(), agent.ahead(), agent.commit())?;
-    Ok(outcome)
-}
+impl<D: Disk> Member<D> {
+    /// Calls a member. Its packets are in flight then, its answers are sent, and what it has committed is printed. A
+    /// client and an operator get an outcome.
+    pub(crate) fn ask(
+        &mut self,
+        outside: &mut Outside,
+        call: Call<'_>,
+    ) -> Result<Option<Outcome>, AgentFault>
+        ensures { Called result self.old self.new }
+    {
+        let outcome = self.answer_of(outside, call)?;
+        self.print(outside)?;
+        Ok(outcome)
+    }
 
-/// Calls a member, and hands on what it gives.
-fn answer_of<D: Disk>(
-    agent: &mut Agent<D>,
-    outside: &mut Outside,
-    call: Call<'_>,
-) -> Result<Option<Outcome>, AgentFault>
-    ensures services { agent.new.services ≡ agent.old.services }
-    ensures consumed { agent.new.module.consumed ≡ agent.old.module.consumed }
-    ensures rises { OnOk result (agent.old.core.values.rest.commit ≤ agent.new.core.values.rest.commit) }
-    ensures bound { agent.old.core.values.rest.commit < 2 ^ 62 → OnOk result (agent.new.core.values.rest.commit < 2 ^ 62) }
-    ensures over { OnOk result (agent.new.over ≡ true → agent.old.over ≡ false → agent.new.core.values.rest.commit ≡ agent.old.core.values.rest.commit) }
-{
-    let Call {
-        member,
-        now,
-        asking,
-    } = call;
-    match asking {
-        Asking::Packet(bytes) => {
-            if let Delivered::Sent(packets) = agent.deliver(bytes, now)? {
-                outside.emit(member, packets)?;
+    /// Calls a member, and hands on what it gives.
+    fn answer_of(
+        &mut self,
+        outside: &mut Outside,
+        call: Call<'_>,
+    ) -> Result<Option<Outcome>, AgentFault>
+        ensures { Called result self.old self.new }
+    {
+        let Call {
+            member,
+            now,
+            asking,
+        } = call;
+        match asking {
+            Asking::Packet(bytes) => {
+                if let Delivered::Sent(packets) = self.deliver(bytes, now)? {
+                    outside.emit(member, packets)?;
+                }
+                Ok(None)
             }
-            Ok(None)
+            Asking::Duty => {
+                let packets = self.duty(now)?;
+                outside.emit(member, packets)?;
+                Ok(None)
+            }
+            Asking::Client(bytes) => {
+                let (outcome, answer) = self.client(bytes, now)?;
+                outside.answer(answer)?;
+                Ok(Some(outcome))
+            }
+            Asking::Action => Ok(Some(self.action(now)?)),
         }
-        Asking::Duty => {
-            let packets = agent.duty(now)?;
-            outside.emit(member, packets)?;
-            Ok(None)
-        }
-        Asking::Client(bytes) => {
-            let (outcome, answer) = agent.client(bytes, now)?;
-            outside.answer(answer)?;
-            Ok(Some(outcome))
-        }
-        Asking::Action => Ok(Some(agent.action(now)?)),
+    }
+
+    /// Takes the bytes of a packet, `now` in ms.
+    fn deliver(&mut self, bytes: &[u8], now: u64) -> Result<Delivered, AgentFault>
+        requires { now ≤ 2 ^ 60 }
+        ensures { Called result self.old self.new }
+    {
+        self.agent.deliver(bytes, now)
+    }
+
+    /// Does the duty of its state, `now` in ms.
+    fn duty(&mut self, now: u64) -> Result<List<Outgoing>, AgentFault>
+        requires { now ≤ 2 ^ 60 }
+        ensures { Called result self.old self.new }
+    {
+        self.agent.duty(now)
+    }
+
+    /// Takes the bytes that a client sends, `now` in ms.
+    fn client(&mut self, bytes: &[u8], now: u64) -> Result<(Outcome, Option<Sent>), AgentFault>
+        requires { now ≤ 2 ^ 60 }
+        ensures { Called result self.old self.new }
+    {
+        self.agent.client(bytes, now)
+    }
+
+    /// Takes a snapshot action, `now` in ms.
+    fn action(&mut self, now: u64) -> Result<Outcome, AgentFault>
+        requires { now ≤ 2 ^ 60 }
+        ensures { Called result self.old self.new }
+    {
+        self.agent.action(now)
     }
 }

@@ -3,15 +3,18 @@
 #![tactic(auto)]
 
 mod calls;
+mod member;
 mod mounted;
 mod outside;
+mod phases;
 mod running;
 mod seat;
 mod site;
 
 pub use calls::Asking;
+pub use member::Shown;
 pub use mounted::Mounted;
 pub use outside::Outside;
-pub use running::{Running, Shown};
+pub use running::Running;
 pub use seat::{Seat, ServiceRun, Took, first_number};
 pub use site::{MemberId, Site};

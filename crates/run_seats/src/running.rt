@@ -1,18 +1,16 @@
 // A running member, between its phases and in one that goes on.
-ghost use Rattle.std.specs.Prelude.{◌≡◌, false, length, IfOk};
-ghost use Rattle.consensus_agent.specs.Phases.{stage};
 ghost use Rattle.run_phases.specs.Frees.{IsFree, IsGoing};
 ghost use Rattle.service_phases.specs.Stages.{IsIdle};
 
-use crate::calls::{Call, ask};
+use crate::calls::Call;
+use crate::member::{Member, Shown};
 use crate::outside::Outside;
 use crate::site::{MemberId, Site};
 use cl_base::{Disk, Entry, List, MemberFault, NoMemory};
-use consensus_agent::{Agent, AgentFault, Fed};
+use consensus_agent::{AgentFault, Fed};
 use egress::Sent;
 use ingress::Outcome;
-use recording_log::SnapshotAt;
-use run_phases::{Free, free_begin, free_drop, free_end, free_feed, run_phase};
+use run_phases::Free;
 use service_container::NoGate;
 use std::alloc::Global;
 use std::marker::Model;
@@ -22,38 +20,36 @@ use std::thread::Threads;
 /// A running member of which no phase runs. Contracts see its commit.
 #[derive(Drop)]
 pub(crate) struct Idle<D: Disk> {
-    agent: Agent<D>,
+    member: Member<D>,
 }
 
 impl<D: Disk> Model for Idle<D> {
     ghost use Rattle.std.specs.Prelude.{ℕ};
-    ghost use Rattle.consensus_agent.specs.Phases.{stage};
     ghost use Rattle.service_phases.specs.Stages.{IsIdle};
 
     ghost Value = { ℕ };
 
-    ghost view = { λ m. m.agent.core.values.rest.commit };
+    ghost view = { λ m. m.member.commit };
 
-    ghost invariant = { λ m. IsIdle (stage m.agent.services m.agent.module m.agent.core m.agent.over) };
+    ghost invariant = { λ m. IsIdle m.member };
 }
 
 /// A running member whose phase goes on over its calls. All that it has committed is published. Contracts see its commit.
 #[derive(Drop)]
 pub(crate) struct Going<D: Disk> {
-    agent: Agent<D>,
+    member: Member<D>,
     phase: Free<NoGate>,
 }
 
 impl<D: Disk> Model for Going<D> {
     ghost use Rattle.std.specs.Prelude.{ℕ};
-    ghost use Rattle.consensus_agent.specs.Phases.{stage};
     ghost use Rattle.run_seats.specs.Going.{GoesOn};
 
     ghost Value = { ℕ };
 
-    ghost view = { λ m. m.agent.core.values.rest.commit };
+    ghost view = { λ m. m.member.commit };
 
-    ghost invariant = { λ m. GoesOn (stage m.agent.services m.agent.module m.agent.core m.agent.over) m.phase };
+    ghost invariant = { λ m. GoesOn m.member m.phase };
 }
 
 /// A running member, between its phases or in one.
@@ -77,27 +73,10 @@ impl<D: Disk> Model for Running<D> {
     ghost view = { λ _. 0 };
 }
 
-/// What is told of a running member.
-#[derive(Clone, Copy)]
-pub struct Shown<'a> {
-    /// Its commit, in entries.
-    pub commit: u64,
-    /// Its candidate term, -1 before any.
-    pub candidate: i64,
-    /// How many entries its log has.
-    pub entries: u64,
-    /// How many of them, from the front, its module consumed.
-    pub consumed: u64,
-    /// Those behind.
-    pub ahead: &'a [Entry],
-    /// Its valid snapshot sets, by rising position.
-    pub sets: &'a [SnapshotAt],
-}
-
 /// A member that stops, no phase of which runs any more. Contracts see nothing of it.
 #[derive(Drop)]
 pub(crate) struct Stopped<D: Disk> {
-    agent: Agent<D>,
+    member: Member<D>,
 }
 
 impl<D: Disk> Model for Stopped<D> {
@@ -111,30 +90,30 @@ impl<D: Disk> Model for Stopped<D> {
 impl<D: Disk> Stopped<D> {
     /// How many services there are.
     pub(crate) fn services(&self) -> u8 {
-        self.agent.services()
+        self.member.services()
     }
 
     /// The entries of the snapshot from which the services began.
     pub(crate) fn base(&self) -> u64 {
-        self.agent.base()
+        self.member.base()
     }
 
     /// What a service consumed.
     pub(crate) fn inputs(&self, service: u8) -> &[Entry] {
-        self.agent.inputs(service)
+        self.member.inputs(service)
     }
 
     /// The disk as it stands.
     pub(crate) fn into_disk(self) -> D {
-        let Stopped { agent } = self;
-        agent.stop()
+        let Stopped { member } = self;
+        member.into_disk()
     }
 }
 
 /// A member that a call failed under. Contracts see nothing of it.
 #[derive(Drop)]
 pub(crate) struct Failed<D: Disk> {
-    agent: Agent<D>,
+    member: Member<D>,
     fault: AgentFault,
 }
 
@@ -154,40 +133,29 @@ impl<D: Disk> Failed<D> {
 
     /// The member, which stops.
     pub(crate) fn stop(self) -> Stopped<D> {
-        let Failed { agent, fault: _ } = self;
-        Stopped { agent }
+        let Failed { member, fault: _ } = self;
+        Stopped { member }
     }
-}
-
-/// A gate for each of so many services.
-fn gates(alloc: Global, services: usize) -> Result<List<NoGate>, NoMemory>
-    ensures { IfOk result (λ gates. length gates ≡ services) }
-{
-    let mut gates = List::new(alloc);
-    for _ in 0..services {
-        gates.push(NoGate)?;
-    }
-    Ok(gates)
 }
 
 /// Feeds a phase what is committed. One that is over ends, its records are sent, and another begins.
 fn feed<R: Threads + Wait + Copy + Send + Sync + 'static, D: Disk>(
     rt: &R,
     outside: &mut Outside,
-    agent: Agent<D>,
+    member: Member<D>,
     phase: Free<NoGate>,
 ) -> Result<Going<D>, Failed<D>>
-    requires free { IsFree (stage agent.services agent.module agent.core agent.over) phase }
-    requires going { IsGoing (stage agent.services agent.module agent.core agent.over) phase.feeds }
+    requires free { IsFree member phase }
+    requires going { IsGoing member phase.feeds }
 {
-    let mut agent = agent;
+    let mut member = member;
     let mut phase = phase;
-    match free_feed(rt, outside.alloc, &mut agent, &mut phase) {
-        Ok(Fed::Over) => end(rt, outside, agent, phase)?.begin(rt, outside.alloc),
-        Ok(Fed::All | Fed::Full) => Ok(Going { agent, phase }),
+    match member.feed(rt, outside.alloc, &mut phase) {
+        Ok(Fed::Over) => end(rt, outside, member, phase)?.begin(rt, outside.alloc),
+        Ok(Fed::All | Fed::Full) => Ok(Going { member, phase }),
         Err(fault) => {
-            free_drop(rt, &mut agent, phase);
-            Err(Failed { agent, fault })
+            member.drop_phase(rt, phase);
+            Err(Failed { member, fault })
         }
     }
 }
@@ -196,32 +164,17 @@ fn feed<R: Threads + Wait + Copy + Send + Sync + 'static, D: Disk>(
 fn end<R: Threads + Wait + Copy + Send + Sync + 'static, D: Disk>(
     rt: &R,
     outside: &mut Outside,
-    agent: Agent<D>,
+    member: Member<D>,
     phase: Free<NoGate>,
 ) -> Result<Idle<D>, Failed<D>>
-    requires free { IsFree (stage agent.services agent.module agent.core agent.over) phase }
-    requires going { IsGoing (stage agent.services agent.module agent.core agent.over) phase.feeds }
+    requires free { IsFree member phase }
+    requires going { IsGoing member phase.feeds }
 {
-    let mut agent = agent;
-    match free_end(rt, outside.alloc, &mut agent, phase) {
-        Ok(records) => Idle { agent }.send(outside, records),
-        Err(fault) => Err(Failed { agent, fault }),
+    let mut member = member;
+    match member.end(rt, outside.alloc, phase) {
+        Ok(records) => Idle { member }.send(outside, records),
+        Err(fault) => Err(Failed { member, fault }),
     }
-}
-
-/// A phase begins, with no gates.
-fn begin<R: Threads + Wait + Copy + Send + Sync + 'static, D: Disk>(
-    rt: &R,
-    alloc: Global,
-    agent: &mut Agent<D>,
-) -> Result<Free<NoGate>, NoMemory>
-    requires idle { IsIdle (stage agent.old.services agent.old.module agent.old.core agent.old.over) }
-    ensures free { IfOk result (λ p. IsFree (stage agent.new.services agent.new.module agent.new.core agent.new.over) p) }
-    ensures going { IfOk result (λ p. IsGoing (stage agent.new.services agent.new.module agent.new.core agent.new.over) p.feeds) }
-    ensures on { IfOk result (λ _. agent.new.over ≡ false) }
-{
-    let gates = gates(alloc, agent.at_hand())?;
-    free_begin(rt, alloc, agent, gates)
 }
 
 impl<D: Disk> Idle<D> {
@@ -230,17 +183,17 @@ impl<D: Disk> Idle<D> {
         match outside.send(records) {
             Ok(()) => Ok(self),
             Err(NoMemory) => Err(Failed {
-                agent: self.into_agent(),
+                member: self.into_member(),
                 fault: AgentFault::NoMemory,
             }),
         }
     }
 
-    fn into_agent(self) -> Agent<D>
-        ensures { IsIdle (stage result.services result.module result.core result.over) }
+    fn into_member(self) -> Member<D>
+        ensures { IsIdle result }
     {
-        let Idle { agent } = self;
-        agent
+        let Idle { member } = self;
+        member
     }
 
     /// Calls the member.
@@ -249,10 +202,10 @@ impl<D: Disk> Idle<D> {
         outside: &mut Outside,
         call: Call<'_>,
     ) -> Result<(Idle<D>, Option<Outcome>), Failed<D>> {
-        let mut agent = self.into_agent();
-        match ask(&mut agent, outside, call) {
-            Ok(outcome) => Ok((Idle { agent }, outcome)),
-            Err(fault) => Err(Failed { agent, fault }),
+        let mut member = self.into_member();
+        match member.ask(outside, call) {
+            Ok(outcome) => Ok((Idle { member }, outcome)),
+            Err(fault) => Err(Failed { member, fault }),
         }
     }
 
@@ -262,10 +215,10 @@ impl<D: Disk> Idle<D> {
         rt: &R,
         outside: &mut Outside,
     ) -> Result<Idle<D>, Failed<D>> {
-        let mut agent = self.into_agent();
-        match run_phase(rt, outside.alloc, &mut agent, &NoGate) {
-            Ok(records) => Idle { agent }.send(outside, records),
-            Err(fault) => Err(Failed { agent, fault }),
+        let mut member = self.into_member();
+        match member.phase(rt, outside.alloc) {
+            Ok(records) => Idle { member }.send(outside, records),
+            Err(fault) => Err(Failed { member, fault }),
         }
     }
 
@@ -275,21 +228,21 @@ impl<D: Disk> Idle<D> {
         rt: &R,
         alloc: Global,
     ) -> Result<Going<D>, Failed<D>> {
-        let mut agent = self.into_agent();
-        let mut phase = match begin(rt, alloc, &mut agent) {
+        let mut member = self.into_member();
+        let mut phase = match member.begin(rt, alloc) {
             Ok(phase) => phase,
             Err(NoMemory) => {
                 return Err(Failed {
-                    agent,
+                    member,
                     fault: AgentFault::NoMemory,
                 });
             }
         };
-        match free_feed(rt, alloc, &mut agent, &mut phase) {
-            Ok(_) => Ok(Going { agent, phase }),
+        match member.feed(rt, alloc, &mut phase) {
+            Ok(_) => Ok(Going { member, phase }),
             Err(fault) => {
-                free_drop(rt, &mut agent, phase);
-                Err(Failed { agent, fault })
+                member.drop_phase(rt, phase);
+                Err(Failed { member, fault })
             }
         }
     }
@@ -303,16 +256,16 @@ impl<D: Disk> Going<D> {
         outside: &mut Outside,
         call: Call<'_>,
     ) -> Result<(Going<D>, Option<Outcome>), Failed<D>> {
-        let Going { agent, phase } = self;
-        let mut agent = agent;
-        match ask(&mut agent, outside, call) {
+        let Going { member, phase } = self;
+        let mut member = member;
+        match member.ask(outside, call) {
             Ok(outcome) => {
-                let going = feed(rt, outside, agent, phase)?;
+                let going = feed(rt, outside, member, phase)?;
                 Ok((going, outcome))
             }
             Err(fault) => {
-                free_drop(rt, &mut agent, phase);
-                Err(Failed { agent, fault })
+                member.drop_phase(rt, phase);
+                Err(Failed { member, fault })
             }
         }
     }
@@ -323,8 +276,8 @@ impl<D: Disk> Going<D> {
         rt: &R,
         outside: &mut Outside,
     ) -> Result<Idle<D>, Failed<D>> {
-        let Going { agent, phase } = self;
-        end(rt, outside, agent, phase)
+        let Going { member, phase } = self;
+        end(rt, outside, member, phase)
     }
 }
 
@@ -341,45 +294,36 @@ impl<D: Disk> Running<D> {
         }
     }
 
-    fn agent(&self) -> &Agent<D> {
+    fn member(&self) -> &Member<D> {
         match &self.state {
-            State::Idle(idle) => &idle.agent,
-            State::Going(going) => &going.agent,
+            State::Idle(idle) => &idle.member,
+            State::Going(going) => &going.member,
         }
     }
 
     /// What is told of it.
     pub fn shown(&self) -> Shown<'_> {
-        let agent = self.agent();
-        Shown {
-            commit: agent.commit(),
-            candidate: agent.durable().candidate_term(),
-            entries: agent.index().entries(),
-            consumed: agent.consumed(),
-            ahead: agent.ahead(),
-            sets: agent.durable().sets(),
-        }
+        self.member().shown()
     }
 
     /// How many services it has.
     pub fn services(&self) -> u8 {
-        self.agent().services()
+        self.member().services()
     }
 
     /// The entries of the snapshot from which its services began.
     pub fn base(&self) -> u64 {
-        self.agent().base()
+        self.member().base()
     }
 
     /// What a service consumed; nothing while a phase goes on.
     pub fn inputs(&self, service: u8) -> &[Entry] {
-        self.agent().inputs(service)
+        self.member().inputs(service)
     }
 
     /// What it has committed is printed.
     pub(crate) fn print(&self, outside: &mut Outside) -> Result<(), NoMemory> {
-        let agent = self.agent();
-        outside.print(agent.consumed(), agent.ahead(), agent.commit())
+        self.member().print(outside)
     }
 
     /// Calls the member. A client and an operator get an outcome.
@@ -440,15 +384,15 @@ impl<D: Disk> Running<D> {
     /// Lets so many changing calls of the member's disk pass.
     pub(crate) fn fuse(self, calls: u64) -> Running<D> {
         match self.state {
-            State::Idle(Idle { agent }) => {
-                let mut agent = agent;
-                agent.fuse(calls);
-                Running::idle(Idle { agent })
+            State::Idle(Idle { member }) => {
+                let mut member = member;
+                member.fuse(calls);
+                Running::idle(Idle { member })
             }
-            State::Going(Going { agent, phase }) => {
-                let mut agent = agent;
-                agent.fuse(calls);
-                Running::going(Going { agent, phase })
+            State::Going(Going { member, phase }) => {
+                let mut member = member;
+                member.fuse(calls);
+                Running::going(Going { member, phase })
             }
         }
     }
@@ -459,11 +403,11 @@ impl<D: Disk> Running<D> {
         rt: &R,
     ) -> Stopped<D> {
         match self.state {
-            State::Idle(Idle { agent }) => Stopped { agent },
-            State::Going(Going { agent, phase }) => {
-                let mut agent = agent;
-                free_drop(rt, &mut agent, phase);
-                Stopped { agent }
+            State::Idle(Idle { member }) => Stopped { member },
+            State::Going(Going { member, phase }) => {
+                let mut member = member;
+                member.drop_phase(rt, phase);
+                Stopped { member }
             }
         }
     }
@@ -476,9 +420,8 @@ pub(crate) fn start<D: Disk>(
     disk: D,
     now: u64,
 ) -> Result<Running<D>, (D, MemberFault)> {
-    let MemberId { member, members } = id;
-    match Agent::mount(site.alloc, member, members, site.kinds(), disk, now) {
-        Ok(agent) => Ok(Running::idle(Idle { agent })),
+    match Member::mount(site, id, disk, now) {
+        Ok(member) => Ok(Running::idle(Idle { member })),
         Err(back) => Err(back),
     }
 }
