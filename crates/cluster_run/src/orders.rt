@@ -69,6 +69,8 @@ impl<D: Disk + Drop> Cluster<D> {
             | Order::Heal { .. }
             | Order::Lose { .. }
             | Order::Replay { .. } => self.disturb(order),
+            Order::Join { .. } | Order::Offer { .. } => Ok(()),
+            Order::Backup { .. } | Order::BackupOff { .. } | Order::BackupLose { .. } => Ok(()),
         }
     }
 

@@ -89,6 +89,11 @@ line_of (order.Lose line a b) = line
 line_of (order.Replay line a b latest) = line
 line_of (order.FreeOn line) = line
 line_of (order.FreeOff line) = line
+line_of (order.Join line client) = line
+line_of (order.Offer line client text) = line
+line_of (order.Backup line member) = line
+line_of (order.BackupOff line) = line
+line_of (order.BackupLose line) = line
 
 -- the first order that isn't run yet, from a stage on, behind so many rounds
 abbrev pub unbuilt_from : Stage → ℕ → List Order → Option Refusal

@@ -3,8 +3,7 @@ use Rattle.std.specs.Prelude.{◌≡◌, ◌⊎◌, ℕ, List, [], ◌++◌, cod
 use Rattle.std.specs.Fmt.{decimal}
 use Rattle.cl_base.specs.declared.fault.Trouble.{Trouble}
 use Rattle.cl_base.specs.declared.fault.Trouble.TheVariants as trouble
-use Rattle.scenario.specs.declared.fault.Cause.{Cause}
-use Rattle.scenario.specs.declared.fault.Cause.TheVariants as cause
+use Rattle.scenario.specs.Causes.{cause_text}
 use Rattle.echo_run.specs.Pieces.{newline}
 use Rattle.echo_run.specs.declared.status.Status.{Status}
 use Rattle.echo_run.specs.declared.status.Status.TheVariants as status
@@ -18,17 +17,6 @@ exit_code status.TooLong = 4
 exit_code status.ReadFault = 7
 exit_code status.WriteFault = 8
 exit_code status.NoMemory = 10
-
--- a cause as it is printed
-abbrev pub cause_text : Cause → List ℕ
-cause_text cause.Byte = codes "byte"
-cause_text cause.LongLine = codes "long line"
-cause_text cause.UnknownOrder = codes "unknown order"
-cause_text cause.Arguments = codes "arguments"
-cause_text cause.Range = codes "range"
-cause_text cause.Header = codes "header"
-cause_text cause.Rounds = codes "rounds"
-cause_text cause.NotBuilt = codes "not built"
 
 -- what a refusal writes: one line. The others write nothing of their own.
 abbrev pub status_text : Status → List ℕ

@@ -155,7 +155,12 @@ fn line_of(order: &Order) -> u64
         | Order::Lose { line, .. }
         | Order::Replay { line, .. }
         | Order::FreeOn { line }
-        | Order::FreeOff { line } => *line,
+        | Order::FreeOff { line }
+        | Order::Join { line, .. }
+        | Order::Offer { line, .. }
+        | Order::Backup { line, .. }
+        | Order::BackupOff { line }
+        | Order::BackupLose { line } => *line,
     }
 }
 

@@ -1,6 +1,7 @@
 // How a run of the program ends.
 ghost use Rattle.std.specs.Prelude.{◌≡◌, ◌++◌, OnOk, IfOk, string_bytes};
-ghost use Rattle.echo_run.specs.Status.{exit_code, cause_text, status_text, ended};
+ghost use Rattle.scenario.specs.Causes.{cause_text};
+ghost use Rattle.echo_run.specs.Status.{exit_code, status_text, ended};
 
 use crate::Answer;
 use crate::page::{put, put_number};
@@ -30,16 +31,7 @@ pub enum Status {
 fn put_cause(page: &mut String, cause: Cause) -> Result<(), NoMemory>
     ensures { OnOk result (string_bytes page.new ≡ string_bytes page.old ++ cause_text cause) }
 {
-    match cause {
-        Cause::Byte => put(page, "byte"),
-        Cause::LongLine => put(page, "long line"),
-        Cause::UnknownOrder => put(page, "unknown order"),
-        Cause::Arguments => put(page, "arguments"),
-        Cause::Range => put(page, "range"),
-        Cause::Header => put(page, "header"),
-        Cause::Rounds => put(page, "rounds"),
-        Cause::NotBuilt => put(page, "not built"),
-    }
+    put(page, cause.text())
 }
 
 fn put_refusal(page: &mut String, line: u64, cause: Cause) -> Result<(), NoMemory>

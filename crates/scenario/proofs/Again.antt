@@ -21,9 +21,9 @@ use Rattle.scenario.specs.declared.keyword.Keyword.TheVariants as keyword
 use Rattle.scenario.specs.declared.told.Told.{Told}
 use Rattle.scenario.specs.Result.{◌>>=◌}
 use Rattle.scenario.specs.Lines.{lines, ended_lines, without_return, is_feed, is_skipped, is_plain}
-use Rattle.scenario.specs.Words.{cut_word, number, two_numbers, two_and_rest, hex, choice, named}
+use Rattle.scenario.specs.Words.{cut_word, number, number_and_rest, two_numbers, two_and_rest, hex, choice, named}
 use Rattle.scenario.specs.Keywords.{keyword_of}
-use Rattle.scenario.specs.Spelling.{single_order, double_order, send_of, sendhex_of, raw_of, fuse_of, replay_of, free_of, order_of, order_after, order_alone, order_by, spelled}
+use Rattle.scenario.specs.Spelling.{single_order, double_order, send_of, sendhex_of, raw_of, fuse_of, replay_of, free_of, offer_of, backup_of, order_of, order_after, order_alone, order_by, spelled}
 use Rattle.scenario.specs.Orders.{members_after, members_of, in_range, may_come, told_by, told_after, forbidden, unless, judged, orders_after, at_end, read_from, reading_of, orders_of, first_fault}
 use Rattle.scenario.specs.Printing.{order_text, printed}
 use Rattle.scenario.specs.Numbered.{at_line, numbered}
@@ -57,6 +57,11 @@ same_forbidden m told (order.Lose line a b) = refl
 same_forbidden m told (order.Replay line a b k) = refl
 same_forbidden m told (order.FreeOn line) = refl
 same_forbidden m told (order.FreeOff line) = refl
+same_forbidden m told (order.Join line c) = refl
+same_forbidden m told (order.Offer line c text) = refl
+same_forbidden m told (order.Backup line n) = refl
+same_forbidden m told (order.BackupOff line) = refl
+same_forbidden m told (order.BackupLose line) = refl
 
 pub same_told : (m : ℕ) (told : Told) (o : Order) → told_after told (at_line m o) ≡ told_after told o
 same_told m told (order.Members line n) = refl
@@ -80,6 +85,11 @@ same_told m told (order.Lose line a b) = refl
 same_told m told (order.Replay line a b k) = refl
 same_told m told (order.FreeOn line) = refl
 same_told m told (order.FreeOff line) = refl
+same_told m told (order.Join line c) = refl
+same_told m told (order.Offer line c text) = refl
+same_told m told (order.Backup line n) = refl
+same_told m told (order.BackupOff line) = refl
+same_told m told (order.BackupLose line) = refl
 
 single_again : (n m : ℕ) (k : Single) (v : ℕ) → single_order m k v ≡ at_line m (single_order n k v)
 single_again n m single.Members v = refl
@@ -89,6 +99,7 @@ single_again n m single.Action v = refl
 single_again n m single.Stop v = refl
 single_again n m single.Start v = refl
 single_again n m single.Invalidate v = refl
+single_again n m single.Join v = refl
 
 double_again : (n m : ℕ) (k : Double) (a b : ℕ) → double_order m k a b ≡ at_line m (double_order n k a b)
 double_again n m double.Connect a b = refl
@@ -104,7 +115,7 @@ onward r x f o e g = subst (λ (y : Result _ Cause). (y >>= f) ≡ Ok o) (sym e)
 
 -- what is spelled is spelled on any line
 order_again : (n m : ℕ) (k : Keyword) (args : List ℕ) (o : Order) → order_of n k args ≡ Ok o → order_of m k args ≡ Ok (at_line m o)
-unfolding order_of send_of sendhex_of raw_of fuse_of replay_of free_of
+unfolding order_of send_of sendhex_of raw_of fuse_of replay_of free_of offer_of backup_of
 order_again n m (keyword.One k) args o e =
     let v = bind_ok (number args) _ o e in
     let is : single_order n k v.0 ≡ o = cc in
@@ -163,6 +174,34 @@ order_again n m keyword.Free args o e = elim (cases_Bool (bytes_eq args (codes "
             let is : order.FreeOff n ≡ o = cc in
             rw (off, on) (ap (λ (x : Order). Ok (at_line m x)) is)
         | inr none ↦ let h = rw none at h in cc
+      ]
+]
+order_again n m keyword.Offer args o e =
+    let p = bind_ok (number_and_rest args) _ o e in
+    elim (cases_Bool (length p.0.1 == 0)) [
+      | inl on ↦ let h = rw on at p.2 in cc
+      | inr off ↦
+          let h = rw off at p.2 in
+          let is : order.Offer n p.0.0 p.0.1 ≡ o = cc in
+          onward (number_and_rest args) p.0 _ (at_line m o) p.1 (rw off (ap (λ (x : Order). Ok (at_line m x)) is))
+    ]
+order_again n m keyword.Backup args o e = elim (cases_Bool (bytes_eq args (codes "off"))) [
+  | inl on ↦
+      let h = rw on at e in
+      let is : order.BackupOff n ≡ o = cc in
+      rw on (ap (λ (x : Order). Ok (at_line m x)) is)
+  | inr off ↦
+      let h = rw off at e in
+      elim (cases_Bool (bytes_eq args (codes "lose"))) [
+        | inl on ↦
+            let h = rw on at h in
+            let is : order.BackupLose n ≡ o = cc in
+            rw (off, on) (ap (λ (x : Order). Ok (at_line m x)) is)
+        | inr other ↦
+            let h = rw other at h in
+            let v = bind_ok (number args) _ o h in
+            let is : order.Backup n v.0 ≡ o = cc in
+            rw (off, other) (onward (number args) v.0 (λ x. Ok (order.Backup m x)) (at_line m o) v.1 (ap (λ (x : Order). Ok (at_line m x)) is))
       ]
 ]
 
@@ -362,6 +401,11 @@ members_small m (order.Lose line a b) le e = le
 members_small m (order.Replay line a b k) le e = le
 members_small m (order.FreeOn line) le e = le
 members_small m (order.FreeOff line) le e = le
+members_small m (order.Join line c) le e = le
+members_small m (order.Offer line c text) le e = le
+members_small m (order.Backup line n) le e = le
+members_small m (order.BackupOff line) le e = le
+members_small m (order.BackupLose line) le e = le
 
 members_again : (before : List Order) (o : Order) → members_of before ≤ 5 → in_range (members_of before) o ≡ true → members_of (before ++ o ∷ []) ≤ 5
 members_again before o small within =

@@ -15,12 +15,12 @@ use Rattle.scenario.specs.declared.keyword.Double.{Double}
 use Rattle.scenario.specs.declared.keyword.Double.TheVariants as double
 use Rattle.scenario.specs.declared.keyword.Keyword.{Keyword}
 use Rattle.scenario.specs.declared.keyword.Keyword.TheVariants as keyword
-use Rattle.scenario.specs.Words.{cut_word, number, two_numbers, two_and_rest, hex_byte, hex, choice, named}
+use Rattle.scenario.specs.Words.{cut_word, number, number_and_rest, two_numbers, two_and_rest, hex_byte, hex, choice, named}
 use Rattle.scenario.specs.Keywords.{keyword_text, keywords, keyword_of}
-use Rattle.scenario.specs.Spelling.{single_order, double_order, send_of, sendhex_of, raw_of, fuse_of, replay_of, free_of, order_of, order_after, order_alone, order_by, spelled}
+use Rattle.scenario.specs.Spelling.{single_order, double_order, send_of, sendhex_of, raw_of, fuse_of, replay_of, free_of, offer_of, backup_of, order_of, order_after, order_alone, order_by, spelled}
 use Rattle.scenario.specs.Orders.{in_range, is_within, is_addressed, is_link}
 use Rattle.scenario.specs.Printing.{byte_text, hex_text, choice_text, name_text, two_text, keyword_for, args_text, order_text}
-use Rattle.scenario.proofs.Canonical.{bind_ok, number_text, cut_text, two_numbers_text, two_and_rest_text, hex_byte_text, hex_pairs_text}
+use Rattle.scenario.proofs.Canonical.{bind_ok, number_text, cut_text, number_and_rest_text, two_numbers_text, two_and_rest_text, hex_byte_text, hex_pairs_text}
 
 hex_whole : (text bytes : List ℕ) → 0 < length text → flat_map byte_text bytes ≡ text → hex_text bytes ≡ text
 hex_whole text [] lt e = absurd (omega (arith, ap length e))
@@ -138,6 +138,11 @@ IsSmall (order.Lose line a b) = (a < 2 ^ 64 - 1) × (b < 2 ^ 64 - 1)
 IsSmall (order.Replay line a b k) = (a < 2 ^ 64 - 1) × (b < 2 ^ 64 - 1) × (k < 2 ^ 64 - 1)
 IsSmall (order.FreeOn line) = Unit {0}
 IsSmall (order.FreeOff line) = Unit {0}
+IsSmall (order.Join line c) = c < 2 ^ 64 - 1
+IsSmall (order.Offer line c text) = c < 2 ^ 64 - 1
+IsSmall (order.Backup line n) = n < 2 ^ 64 - 1
+IsSmall (order.BackupOff line) = Unit {0}
+IsSmall (order.BackupLose line) = Unit {0}
 
 -- an order is printed as this first word and what stands behind its space
 pub record Prints (k : Keyword) (args : List ℕ) (o : Order) : Type 0 where
@@ -152,6 +157,7 @@ single_prints n v single.Action args e small = record { word = refl; behind = nu
 single_prints n v single.Stop args e small = record { word = refl; behind = number_text args v e small }
 single_prints n v single.Start args e small = record { word = refl; behind = number_text args v e small }
 single_prints n v single.Invalidate args e small = record { word = refl; behind = number_text args v e small }
+single_prints n v single.Join args e small = record { word = refl; behind = number_text args v e small }
 
 double_prints : (n : ℕ) (p : ℕ × ℕ) (k : Double) (args : List ℕ) → two_numbers args ≡ Ok p → IsSmall (double_order n k p.0 p.1) → Prints (keyword.Two k) args (double_order n k p.0 p.1)
 double_prints n p double.Connect args e small = record { word = refl; behind = two_numbers_text args p e small.0 small.1 }
@@ -169,7 +175,7 @@ tail_prints : (args : List ℕ) (p : ℕ × ℕ × List ℕ) (tail : List ℕ) �
 tail_prints args p tail e small0 small1 is = ap (λ t. two_text p.0 p.1 ++ 32 ∷ t) is ∙ two_and_rest_text args p e small0 small1
 
 pub order_prints : (n : ℕ) (k : Keyword) (args : List ℕ) (o : Order) → order_of n k args ≡ Ok o → IsSmall o → Prints k args o
-unfolding order_of send_of sendhex_of raw_of fuse_of replay_of free_of
+unfolding order_of send_of sendhex_of raw_of fuse_of replay_of free_of offer_of backup_of
 order_prints n (keyword.One k) args o e =
     let v = bind_ok (number args) _ o e in
     let is : single_order n k v.0 ≡ o = cc in
@@ -224,6 +230,34 @@ order_prints n keyword.Free args o e = elim (cases_Bool (bytes_eq args (codes "o
             let is : order.FreeOff n ≡ o = cc in
             moved keyword.Free args _ o is (λ _. record { word = refl; behind = sym ((bytes_eq-Decides args (codes "off")).0 on) })
         | inr none ↦ let h = rw none at h in cc
+      ]
+]
+order_prints n keyword.Offer args o e =
+    let p = bind_ok (number_and_rest args) _ o e in
+    elim (cases_Bool (length p.0.1 == 0)) [
+      | inl on ↦ let h = rw on at p.2 in cc
+      | inr off ↦
+          let h = rw off at p.2 in
+          let is : order.Offer n p.0.0 p.0.1 ≡ o = cc in
+          moved keyword.Offer args _ o is (λ small. record { word = refl; behind = number_and_rest_text args p.0 p.1 small })
+    ]
+order_prints n keyword.Backup args o e = elim (cases_Bool (bytes_eq args (codes "off"))) [
+  | inl on ↦
+      let h = rw on at e in
+      let is : order.BackupOff n ≡ o = cc in
+      moved keyword.Backup args _ o is (λ _. record { word = refl; behind = sym ((bytes_eq-Decides args (codes "off")).0 on) })
+  | inr off ↦
+      let h = rw off at e in
+      elim (cases_Bool (bytes_eq args (codes "lose"))) [
+        | inl on ↦
+            let h = rw on at h in
+            let is : order.BackupLose n ≡ o = cc in
+            moved keyword.Backup args _ o is (λ _. record { word = refl; behind = sym ((bytes_eq-Decides args (codes "lose")).0 on) })
+        | inr other ↦
+            let h = rw other at h in
+            let v = bind_ok (number args) _ o h in
+            let is : order.Backup n v.0 ≡ o = cc in
+            moved keyword.Backup args _ o is (λ small. record { word = refl; behind = number_text args v.0 v.1 small })
       ]
 ]
 
@@ -288,3 +322,8 @@ small_in_range m (order.Replay line a b k) le e =
     (link.0, link.1, omega (arith, leb-true k 256 ends.1))
 small_in_range m (order.FreeOn line) le e = tt
 small_in_range m (order.FreeOff line) le e = tt
+small_in_range m (order.Join line c) le e = omega (arith, ltb-true c 64 e)
+small_in_range m (order.Offer line c text) le e = omega (arith, ltb-true c 64 e)
+small_in_range m (order.Backup line n) le e = omega (arith, ltb-true n m e)
+small_in_range m (order.BackupOff line) le e = tt
+small_in_range m (order.BackupLose line) le e = tt

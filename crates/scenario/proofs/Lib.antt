@@ -1,6 +1,7 @@
 pub mod LineLaws
 pub mod NumberLaws
 pub mod OrderLaws
+pub mod Namings
 pub mod Canonical
 pub mod CanonicalLines
 pub mod Again

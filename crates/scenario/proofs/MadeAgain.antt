@@ -1,7 +1,7 @@
 -- The generated scenario is read whole: each of its orders may come where it stands.
 use Rattle.std.proofs.Common.{◌≡◌, ℕ, zero, suc, ◌<◌, ◌≤◌, ◌+◌, ◌-◌, ◌*◌, ◌/◌, ◌%◌, Bool, true, false, List, [], ◌∷◌, ◌++◌, map, refl, ap, ◌∙◌, sym, arith, None, Ok, subst, append_assoc}
 use Rattle.std.specs.Prelude.{nat_lt, ◌==◌, ◌||◌, if◌then◌else◌, codes, flat_map, decimal}
-use Rattle.std.specs.List.{range_with_len, AllByRecursion}
+use Rattle.std.specs.List.{list_all, range_with_len, AllByRecursion}
 use Rattle.std.proofs.lemmas.Bool.{lt-ltb, le-ltb}
 use Rattle.std.proofs.lemmas.List.{append-nil}
 use Rattle.std.proofs.lemmas.Grind.{flat_map-append}
@@ -10,6 +10,7 @@ use Rattle.scenario.specs.declared.order.Order.{Order}
 use Rattle.scenario.specs.declared.order.Order.TheVariants as order
 use Rattle.scenario.specs.declared.told.Told.{Told}
 use Rattle.scenario.specs.Orders.{in_range, may_come, told_by, told_after, rounds_in, forbidden, judged, at_end, read_from, reading_of}
+use Rattle.scenario.specs.Naming.{barred}
 use Rattle.scenario.specs.Printing.{order_text, printed}
 use Rattle.scenario.specs.Numbered.{at_line, numbered}
 use Rattle.scenario.specs.Words.{number}
@@ -17,6 +18,7 @@ use Rattle.scenario.specs.Made.{message_text, message_step, half, head_text, mid
 use Rattle.scenario.proofs.Canonical.{number_text}
 use Rattle.scenario.specs.MadeOrders.{message_order, pause_orders, step_orders, half_orders, head_orders, middle_orders, made_orders}
 use Rattle.scenario.proofs.OrderLaws.{read_step}
+use Rattle.scenario.proofs.Namings.{is_apart, sends_free, ordered_apart}
 use Rattle.scenario.proofs.Again.{same_forbidden, same_told, told_more, order_after_is, reading, IsPlainOrder, printed_lines}
 use Rattle.scenario.proofs.MadeLines.{Reads, message_reads, members_reads, echo_reads, ledger_reads, rounds_read, connect_reads, stop_reads, start_reads}
 
@@ -51,17 +53,18 @@ fine_read (o ∷ os) before told n same f =
     read_step before next n (order_text o) (map order_text os) after ∙ fine_read os next (told_after told o) (n + 1) told_next f.2
     ∙ ap (λ os. reading os None) (append_assoc before (at_line n o ∷ []) (numbered (n + 1) os))
 
--- three members, two services, and so many rounds at most
+-- three members, two services, so many rounds at most, and nobody joined
 record Going (told : Told) (r : ℕ) : Type 0 where
   members : told.members ≡ 3
   services : told.services ≡ 2
   rounds : told.rounds ≤ r
+  clients : list_all is_apart told.clients ≡ true
 
-allowed : (told : Told) (o : Order) → in_range told.members o ≡ true → may_come told.orders told.services o ≡ true → told.rounds + rounds_in o ≤ 100000 → forbidden told o ≡ None
+allowed : (told : Told) (o : Order) → in_range told.members o ≡ true → may_come told.orders told.services o ≡ true → told.rounds + rounds_in o ≤ 100000 → barred told.clients o ≡ None → forbidden told o ≡ None
 unfolding forbidden
-allowed told o within place fits =
+allowed told o within place fits free =
     let few : nat_lt 100000 (told.rounds + rounds_in o) ≡ false = le-ltb 100000 (told.rounds + rounds_in o) fits in
-    rw (within, place, few) refl
+    rw (within, place, few) free
 
 message_allowed : (told : Told) (r member i : ℕ) → member < 3 → r ≤ 100000 → Going told r → forbidden told (message_order member i) ≡ None
 unfolding in_range may_come
@@ -69,25 +72,25 @@ message_allowed told r member i lt le g =
     let c = lt-ltb (i % 5) 64 (omega (arith, mod-lt i {m = 5} (omega arith))) in
     let m = lt-ltb member told.members (omega (arith, g.members)) in
     let s = lt-ltb 0 told.services (omega (arith, g.services)) in
-    allowed told (message_order member i) (rw (c, m) refl) s (omega (arith, g.rounds))
+    allowed told (message_order member i) (rw (c, m) refl) s (omega (arith, g.rounds)) (sends_free told.clients (i % 5) g.clients)
 
 pause_allowed : (told : Told) (r : ℕ) → r + 3 ≤ 100000 → Going told r → forbidden told (order.Rounds 0 3) ≡ None
 unfolding in_range may_come
-pause_allowed told r le g = allowed told (order.Rounds 0 3) refl (lt-ltb 0 told.services (omega (arith, g.services))) (omega (arith, g.rounds))
+pause_allowed told r le g = allowed told (order.Rounds 0 3) refl (lt-ltb 0 told.services (omega (arith, g.services))) (omega (arith, g.rounds)) refl
 
 -- rounds go on
 rounds_allowed : (told : Told) (r k : ℕ) → in_range told.members (order.Rounds 0 k) ≡ true → r + k ≤ 100000 → Going told r → forbidden told (order.Rounds 0 k) ≡ None
 unfolding may_come
-rounds_allowed told r k within le g = allowed told (order.Rounds 0 k) within (lt-ltb 0 told.services (omega (arith, g.services))) (omega (arith, g.rounds))
+rounds_allowed told r k within le g = allowed told (order.Rounds 0 k) within (lt-ltb 0 told.services (omega (arith, g.services))) (omega (arith, g.rounds)) refl
 
 going_rounds : (told : Told) (r k : ℕ) → Going told r → Going (told_after told (order.Rounds 0 k)) (r + k)
-going_rounds told r k g = record { members = g.members; services = omega (arith, g.services); rounds = omega (arith, g.rounds) }
+going_rounds told r k g = record { members = g.members; services = omega (arith, g.services); rounds = omega (arith, g.rounds); clients = g.clients }
 
 going_send : (told : Told) (r member i : ℕ) → Going told r → Going (told_after told (message_order member i)) r
-going_send told r member i g = record { members = g.members; services = omega (arith, g.services); rounds = omega (arith, g.rounds) }
+going_send told r member i g = record { members = g.members; services = omega (arith, g.services); rounds = omega (arith, g.rounds); clients = ordered_apart told.clients (i % 5) g.clients }
 
 wider : (told : Told) (r s : ℕ) → r ≤ s → Going told r → Going told s
-wider told r s le g = record { members = g.members; services = g.services; rounds = omega (arith, g.rounds) }
+wider told r s le g = record { members = g.members; services = g.services; rounds = omega (arith, g.rounds); clients = g.clients }
 
 pause_fine : (b : Bool) (r : ℕ) (told : Told) (rest : List Order) → r + 3 ≤ 100000 → Going told r → ((t : Told) → Going t (r + 3) → Fine t rest) → Fine told ((if b then order.Rounds 0 3 ∷ [] else []) ++ rest)
 pause_fine true r told rest le g next = (rounds_read 3 (omega arith), pause_allowed told r le g, next (told_after told (order.Rounds 0 3)) (going_rounds told r 3 g))
@@ -112,17 +115,17 @@ last_fine told r le g = (rounds_read 10 (omega arith), rounds_allowed told r 10 
 -- a member that there is stops or starts
 stop_allowed : (told : Told) (r : ℕ) → r ≤ 100000 → Going told r → forbidden told (order.Stop 0 0) ≡ None
 unfolding in_range may_come
-stop_allowed told r le g = allowed told (order.Stop 0 0) (lt-ltb 0 told.members (omega (arith, g.members))) (lt-ltb 0 told.services (omega (arith, g.services))) (omega (arith, g.rounds))
+stop_allowed told r le g = allowed told (order.Stop 0 0) (lt-ltb 0 told.members (omega (arith, g.members))) (lt-ltb 0 told.services (omega (arith, g.services))) (omega (arith, g.rounds)) refl
 
 start_allowed : (told : Told) (r : ℕ) → r ≤ 100000 → Going told r → forbidden told (order.Start 0 0) ≡ None
 unfolding in_range may_come
-start_allowed told r le g = allowed told (order.Start 0 0) (lt-ltb 0 told.members (omega (arith, g.members))) (lt-ltb 0 told.services (omega (arith, g.services))) (omega (arith, g.rounds))
+start_allowed told r le g = allowed told (order.Start 0 0) (lt-ltb 0 told.members (omega (arith, g.members))) (lt-ltb 0 told.services (omega (arith, g.services))) (omega (arith, g.rounds)) refl
 
 going_stop : (told : Told) (r : ℕ) → Going told r → Going (told_after told (order.Stop 0 0)) r
-going_stop told r g = record { members = g.members; services = omega (arith, g.services); rounds = omega (arith, g.rounds) }
+going_stop told r g = record { members = g.members; services = omega (arith, g.services); rounds = omega (arith, g.rounds); clients = g.clients }
 
 going_start : (told : Told) (r : ℕ) → Going told r → Going (told_after told (order.Start 0 0)) r
-going_start told r g = record { members = g.members; services = omega (arith, g.services); rounds = omega (arith, g.rounds) }
+going_start told r g = record { members = g.members; services = omega (arith, g.services); rounds = omega (arith, g.rounds); clients = g.clients }
 
 middle_fine : (told : Told) (r : ℕ) (rest : List Order) → r + 405 ≤ 100000 → Going told r → ((t : Told) → Going t (r + 405) → Fine t rest) → Fine told (middle_orders ++ rest)
 unfolding in_range
@@ -187,7 +190,7 @@ head_fine rest next = (
                 (
                   connect_reads 4 (omega arith),
                   refl,
-                  (rounds_read 5 (omega arith), refl, next _ (record { members = refl; services = refl; rounds = omega arith })),
+                  (rounds_read 5 (omega arith), refl, next _ (record { members = refl; services = refl; rounds = omega arith; clients = refl })),
                 ),
               ),
             ),

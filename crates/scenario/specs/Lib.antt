@@ -3,6 +3,7 @@ pub mod Lines
 pub mod Words
 pub mod Keywords
 pub mod Spelling
+pub mod Naming
 pub mod Orders
 pub mod Printing
 pub mod Made

@@ -26,6 +26,11 @@ at_line l (order.Lose line a b) = order.Lose l a b
 at_line l (order.Replay line a b k) = order.Replay l a b k
 at_line l (order.FreeOn line) = order.FreeOn l
 at_line l (order.FreeOff line) = order.FreeOff l
+at_line l (order.Join line c) = order.Join l c
+at_line l (order.Offer line c text) = order.Offer l c text
+at_line l (order.Backup line n) = order.Backup l n
+at_line l (order.BackupOff line) = order.BackupOff l
+at_line l (order.BackupLose line) = order.BackupLose l
 
 -- the same orders, one on each line from number l on
 abbrev pub numbered : ℕ → List Order → List Order

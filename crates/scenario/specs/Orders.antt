@@ -1,5 +1,5 @@
 -- The orders of a scenario, and its first faulty line.
-use Rattle.std.specs.Prelude.{◌≡◌, ℕ, ◌+◌, ◌==◌, Bool, true, false, not, ◌&&◌, nat_le, nat_lt, List, [], ◌∷◌, ◌++◌, length, fold, sum_by, count_by, if◌then◌else◌, Option, Some, None, Result, Ok, Err}
+use Rattle.std.specs.Prelude.{◌≡◌, ℕ, ◌+◌, ◌==◌, Bool, true, false, not, ◌&&◌, nat_le, nat_lt, List, [], ◌∷◌, ◌++◌, length, fold, sum_by, count_by, replicate, if◌then◌else◌, Option, Some, None, Result, Ok, Err}
 use Rattle.std.specs.List.{list_all}
 use Rattle.scenario.specs.declared.fault.Cause.{Cause}
 use Rattle.scenario.specs.declared.fault.Cause.TheVariants.{Byte, LongLine, Range, Header}
@@ -9,11 +9,14 @@ use Rattle.scenario.specs.declared.fault.Reading.{Reading}
 use Rattle.scenario.specs.declared.fault.ParseFault.{ParseFault}
 use Rattle.scenario.specs.declared.fault.ParseFault.TheVariants as parsing
 use Rattle.scenario.specs.declared.order.Order.{Order}
-use Rattle.scenario.specs.declared.order.Order.TheVariants.{Members, Service, Rounds, Quiet, Connect, Send, SendHex, Close, KeepAlive, Raw, Action, Stop, Start, Invalidate, Fuse, Cut, Heal, Lose, Replay, FreeOn, FreeOff}
+use Rattle.scenario.specs.declared.order.Order.TheVariants.{Members, Service, Rounds, Quiet, Connect, Send, SendHex, Close, KeepAlive, Raw, Action, Stop, Start, Invalidate, Fuse, Cut, Heal, Lose, Replay, FreeOn, FreeOff, Join, Offer, Backup, BackupOff, BackupLose}
 use Rattle.scenario.specs.declared.told.Told.{Told}
 use Rattle.scenario.specs.Result.{◌>>=◌}
 use Rattle.scenario.specs.Lines.{lines, is_skipped, is_plain}
 use Rattle.scenario.specs.Spelling.{spelled}
+use Rattle.scenario.specs.declared.naming.ClientUse.{ClientUse}
+use Rattle.scenario.specs.declared.naming.ClientUse.TheVariants.{Unused}
+use Rattle.scenario.specs.Naming.{barred, clients_after}
 
 -- the members that an order leaves, where there were m before it
 abbrev pub members_after : ℕ → Order → ℕ
@@ -41,6 +44,10 @@ rounds_in _ = 0
 -- the rounds in all
 abbrev pub rounds_of : List Order → ℕ
 rounds_of orders = sum_by rounds_in orders
+
+-- what each of the 64 clients is used for, by its number
+abbrev pub clients_of : List Order → List ClientUse
+clients_of orders = fold clients_after (replicate 64 Unused) orders
 
 -- from a to b, the ends included
 abbrev pub is_within : ℕ → ℕ → ℕ → Bool
@@ -77,6 +84,11 @@ in_range m (Lose line a b) = is_link m a b
 in_range m (Replay line a b k) = is_link m a b && is_within 1 256 k
 in_range m (FreeOn line) = true
 in_range m (FreeOff line) = true
+in_range m (Join line c) = nat_lt c 64
+in_range m (Offer line c text) = nat_lt c 64
+in_range m (Backup line member) = nat_lt member m
+in_range m (BackupOff line) = true
+in_range m (BackupLose line) = true
 
 -- An order may come behind n others of which s name services: `members` first, then one to three services with nothing
 -- between, then the others.
@@ -87,11 +99,11 @@ may_come n s _ = nat_lt 0 s
 
 -- what the orders so far tell
 abbrev pub told_by : List Order → Told
-told_by before = record { orders = length before; members = members_of before; services = services_of before; rounds = rounds_of before }
+told_by before = record { orders = length before; members = members_of before; services = services_of before; rounds = rounds_of before; clients = clients_of before }
 
--- the first cause that keeps an order from coming behind others: its ranges, its place, the rounds in all
+-- the first cause that keeps an order from coming behind others: its ranges, its place, the rounds in all, its client
 unfoldable pub forbidden : Told → Order → Option Cause
-forbidden told o = if not (in_range told.members o) then Some Range else (if not (may_come told.orders told.services o) then Some Header else (if nat_lt 100000 (told.rounds + rounds_in o) then Some cause.Rounds else None))
+forbidden told o = if not (in_range told.members o) then Some Range else (if not (may_come told.orders told.services o) then Some Header else (if nat_lt 100000 (told.rounds + rounds_in o) then Some cause.Rounds else barred told.clients o))
 
 -- a value, unless there is a cause
 abbrev pub unless : {A : Type 0} → Option Cause → A → Result A Cause
@@ -100,7 +112,7 @@ unless (Some c) x = Err c
 
 -- what is told once an order more has come
 abbrev pub told_after : Told → Order → Told
-told_after told o = record { orders = told.orders + 1; members = members_after told.members o; services = told.services + (if is_service o then 1 else 0); rounds = told.rounds + rounds_in o }
+told_after told o = record { orders = told.orders + 1; members = members_after told.members o; services = told.services + (if is_service o then 1 else 0); rounds = told.rounds + rounds_in o; clients = clients_after told.clients o }
 
 -- the order of a line behind others, or the first cause that applies
 unfoldable pub judged : Told → ℕ → List ℕ → Result Order Cause

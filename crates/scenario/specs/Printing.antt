@@ -5,7 +5,7 @@ use Rattle.cl_base.specs.declared.disk.Choice.TheVariants as choice
 use Rattle.scenario.specs.declared.order.Named.{Named}
 use Rattle.scenario.specs.declared.order.Named.TheVariants.{Echo, Ledger, Ticker}
 use Rattle.scenario.specs.declared.order.Order.{Order}
-use Rattle.scenario.specs.declared.order.Order.TheVariants.{Members, Service, Rounds, Quiet, Connect, Send, SendHex, Close, KeepAlive, Raw, Action, Stop, Start, Invalidate, Fuse, Cut, Heal, Lose, Replay, FreeOn, FreeOff}
+use Rattle.scenario.specs.declared.order.Order.TheVariants.{Members, Service, Rounds, Quiet, Connect, Send, SendHex, Close, KeepAlive, Raw, Action, Stop, Start, Invalidate, Fuse, Cut, Heal, Lose, Replay, FreeOn, FreeOff, Join, Offer, Backup, BackupOff, BackupLose}
 use Rattle.scenario.specs.declared.keyword.Single.TheVariants as single
 use Rattle.scenario.specs.declared.keyword.Double.TheVariants as double
 use Rattle.scenario.specs.declared.keyword.Keyword.{Keyword}
@@ -62,6 +62,11 @@ keyword_for (Lose line a b) = keyword.Two double.Lose
 keyword_for (Replay line a b k) = keyword.Replay
 keyword_for (FreeOn line) = keyword.Free
 keyword_for (FreeOff line) = keyword.Free
+keyword_for (Join line c) = keyword.One single.Join
+keyword_for (Offer line c text) = keyword.Offer
+keyword_for (Backup line m) = keyword.Backup
+keyword_for (BackupOff line) = keyword.Backup
+keyword_for (BackupLose line) = keyword.Backup
 
 -- what stands behind the first word and its space
 abbrev pub args_text : Order → List ℕ
@@ -86,6 +91,11 @@ args_text (Lose line a b) = two_text a b
 args_text (Replay line a b k) = two_text a b ++ 32 ∷ decimal k
 args_text (FreeOn line) = codes "on"
 args_text (FreeOff line) = codes "off"
+args_text (Join line c) = decimal c
+args_text (Offer line c text) = decimal c ++ 32 ∷ text
+args_text (Backup line m) = decimal m
+args_text (BackupOff line) = codes "off"
+args_text (BackupLose line) = codes "lose"
 
 -- an order as a line, without its line feed
 unfoldable pub order_text : Order → List ℕ

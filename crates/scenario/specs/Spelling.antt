@@ -11,7 +11,7 @@ use Rattle.scenario.specs.declared.keyword.Double.TheVariants as double
 use Rattle.scenario.specs.declared.keyword.Keyword.{Keyword}
 use Rattle.scenario.specs.declared.keyword.Keyword.TheVariants as keyword
 use Rattle.scenario.specs.Result.{◌>>=◌}
-use Rattle.scenario.specs.Words.{cut_word, number, two_numbers, two_and_rest, hex, choice, named}
+use Rattle.scenario.specs.Words.{cut_word, number, number_and_rest, two_numbers, two_and_rest, hex, choice, named}
 use Rattle.scenario.specs.Keywords.{keyword_of}
 
 -- `send C M TEXT`: the text is all behind the third space, and not empty
@@ -52,6 +52,16 @@ replay_of line args = do
 unfoldable pub free_of : ℕ → List ℕ → Result Order Cause
 free_of line args = if bytes_eq args (codes "on") then Ok (order.FreeOn line) else (if bytes_eq args (codes "off") then Ok (order.FreeOff line) else Err Arguments)
 
+-- `offer C TEXT`: the text is all behind the second space, and not empty
+unfoldable pub offer_of : ℕ → List ℕ → Result Order Cause
+offer_of line args = do
+  parts ← number_and_rest args
+  if length parts.1 == 0 then Err Arguments else Ok (order.Offer line parts.0 parts.1)
+
+-- `backup M`, `backup off`, `backup lose`
+unfoldable pub backup_of : ℕ → List ℕ → Result Order Cause
+backup_of line args = if bytes_eq args (codes "off") then Ok (order.BackupOff line) else (if bytes_eq args (codes "lose") then Ok (order.BackupLose line) else (number args >>= λ m. Ok (order.Backup line m)))
+
 -- the order of one number
 abbrev pub single_order : ℕ → Single → ℕ → Order
 single_order line single.Members n = order.Members line n
@@ -61,6 +71,7 @@ single_order line single.Action n = order.Action line n
 single_order line single.Stop n = order.Stop line n
 single_order line single.Start n = order.Start line n
 single_order line single.Invalidate n = order.Invalidate line n
+single_order line single.Join n = order.Join line n
 
 -- the order of two numbers
 abbrev pub double_order : ℕ → Double → ℕ → ℕ → Order
@@ -82,6 +93,8 @@ order_of line keyword.Raw args = raw_of line args
 order_of line keyword.Fuse args = fuse_of line args
 order_of line keyword.Replay args = replay_of line args
 order_of line keyword.Free args = free_of line args
+order_of line keyword.Offer args = offer_of line args
+order_of line keyword.Backup args = backup_of line args
 
 -- a first word that may be none of them, and the text behind its space where there is one
 unfoldable pub order_after : ℕ → Option Keyword → List ℕ → Result Order Cause

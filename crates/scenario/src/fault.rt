@@ -23,6 +23,10 @@ pub enum Cause {
     Header,
     /// More than 100,000 rounds so far.
     Rounds,
+    /// An order sends for a client that joined, or a client joins that an order named.
+    Joined,
+    /// An offer of a client that didn't join.
+    NotJoined,
     /// An order that the program doesn't run yet. Reading gives it for no line.
     NotBuilt,
 }
@@ -40,6 +44,8 @@ impl Cause {
             Cause::Range => "range",
             Cause::Header => "header",
             Cause::Rounds => "rounds",
+            Cause::Joined => "joined",
+            Cause::NotJoined => "not joined",
             Cause::NotBuilt => "not built",
         }
     }

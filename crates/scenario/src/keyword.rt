@@ -15,6 +15,7 @@ pub enum Single {
     Stop,
     Start,
     Invalidate,
+    Join,
 }
 
 impl Single {
@@ -30,6 +31,7 @@ impl Single {
             Single::Stop => "stop",
             Single::Start => "start",
             Single::Invalidate => "invalidate",
+            Single::Join => "join",
         }
     }
 
@@ -37,7 +39,7 @@ impl Single {
     pub fn order(self, line: u64, number: u64) -> Order
         ensures { result ≡ single_order line self number }
     {
-        let (members, rounds, member) = (number, number, number);
+        let (members, rounds, member, client) = (number, number, number, number);
         match self {
             Single::Members => Order::Members { line, members },
             Single::Rounds => Order::Rounds { line, rounds },
@@ -46,6 +48,7 @@ impl Single {
             Single::Stop => Order::Stop { line, member },
             Single::Start => Order::Start { line, member },
             Single::Invalidate => Order::Invalidate { line, member },
+            Single::Join => Order::Join { line, client },
         }
     }
 }
@@ -117,11 +120,13 @@ pub enum Keyword {
     Fuse,
     Replay,
     Free,
+    Offer,
+    Backup,
 }
 
 impl Keyword {
     /// All of them.
-    fn all() -> [Keyword; 20]
+    fn all() -> [Keyword; 23]
         ensures { result ≡ keywords }
     {
         [
@@ -145,6 +150,9 @@ impl Keyword {
             Keyword::Two(Double::Lose),
             Keyword::Replay,
             Keyword::Free,
+            Keyword::One(Single::Join),
+            Keyword::Offer,
+            Keyword::Backup,
         ]
     }
 
@@ -173,6 +181,8 @@ impl Keyword {
             Keyword::Fuse => "fuse",
             Keyword::Replay => "replay",
             Keyword::Free => "free",
+            Keyword::Offer => "offer",
+            Keyword::Backup => "backup",
         }
     }
 }

@@ -8,6 +8,7 @@ mod keyword;
 mod laws;
 mod lines;
 mod making;
+mod naming;
 mod order;
 mod printing;
 mod reader;

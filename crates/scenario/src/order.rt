@@ -136,4 +136,29 @@ pub enum Order {
     FreeOff {
         line: u64,
     },
+    /// `join C`: from now on the client connects, keeps its session alive and reads its stream by itself. No order
+    /// that sends for it stands before or behind.
+    Join {
+        line: u64,
+        client: u64,
+    },
+    /// `offer C TEXT`: a joined client offers a message of at least one byte, each 0x20 to 0x7e.
+    Offer {
+        line: u64,
+        client: u64,
+        text: Bytes,
+    },
+    /// `backup M`: the backup asks this member from now on.
+    Backup {
+        line: u64,
+        member: u64,
+    },
+    /// `backup off`: the backup asks nobody.
+    BackupOff {
+        line: u64,
+    },
+    /// `backup lose`: the backup's packets in flight vanish.
+    BackupLose {
+        line: u64,
+    },
 }

@@ -112,6 +112,10 @@ fn keyword_of(order: &Order) -> Keyword
         Order::Lose { .. } => Keyword::Two(Double::Lose),
         Order::Replay { .. } => Keyword::Replay,
         Order::FreeOn { .. } | Order::FreeOff { .. } => Keyword::Free,
+        Order::Join { .. } => Keyword::One(Single::Join),
+        Order::Offer { .. } => Keyword::Offer,
+        Order::Backup { .. } | Order::BackupOff { .. } | Order::BackupLose { .. } =>
+            Keyword::Backup,
     }
 }
 
@@ -135,7 +139,9 @@ fn put_args(out: &mut Vec<u8>, order: &Order) -> Result<(), AllocError>
         | Order::Action { member: n, .. }
         | Order::Stop { member: n, .. }
         | Order::Start { member: n, .. }
-        | Order::Invalidate { member: n, .. } => put_number(out, *n),
+        | Order::Invalidate { member: n, .. }
+        | Order::Join { client: n, .. }
+        | Order::Backup { member: n, .. } => put_number(out, *n),
         Order::Connect {
             client: a,
             member: b,
@@ -156,7 +162,13 @@ fn put_args(out: &mut Vec<u8>, order: &Order) -> Result<(), AllocError>
         | Order::Lose { from: a, to: b, .. } => put_two(out, *a, *b),
         Order::Service { name, .. } => put_name(out, *name),
         Order::FreeOn { .. } => out.extend_from_slice(b"on"),
-        Order::FreeOff { .. } => out.extend_from_slice(b"off"),
+        Order::FreeOff { .. } | Order::BackupOff { .. } => out.extend_from_slice(b"off"),
+        Order::BackupLose { .. } => out.extend_from_slice(b"lose"),
+        Order::Offer { client, text, .. } => {
+            put_number(out, *client)?;
+            out.push(b' ')?;
+            out.extend_from_slice(text.as_slice())
+        }
         Order::Send {
             client,
             member,

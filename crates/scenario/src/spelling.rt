@@ -1,13 +1,13 @@
 // What a line spells.
 ghost use Rattle.std.specs.Prelude.{◌≡◌};
 ghost use Rattle.scenario.specs.Result.{Gives};
-ghost use Rattle.scenario.specs.Spelling.{spelled as line_spells, order_of as args_spell, send_of as send_spells, sendhex_of as sendhex_spells, raw_of as raw_spells, fuse_of as fuse_spells, replay_of as replay_spells, free_of as free_spells};
+ghost use Rattle.scenario.specs.Spelling.{spelled as line_spells, order_of as args_spell, send_of as send_spells, sendhex_of as sendhex_spells, raw_of as raw_spells, fuse_of as fuse_spells, replay_of as replay_spells, free_of as free_spells, offer_of as offer_spells, backup_of as backup_spells};
 
 use crate::fault::{Cause, LineFault};
 use crate::hex::{bytes_of, choice_of};
 use crate::keyword::Keyword;
 use crate::order::Order;
-use crate::words::{cut, named_of, number_of, two_first, two_of};
+use crate::words::{cut, first_number, named_of, number_of, two_first, two_of};
 use cl_base::Bytes;
 use std::alloc::Global;
 
@@ -103,6 +103,34 @@ fn free(line: u64, args: &[u8]) -> Result<Order, LineFault>
     }
 }
 
+/// `offer C TEXT`
+#[tactic(auto, unfolding(crate::specs::Spelling::offer_of))]
+fn offer(alloc: Global, line: u64, args: &[u8]) -> Result<Order, LineFault>
+    ensures { Gives result (offer_spells line args.now) }
+{
+    let (client, text) = first_number(args)?;
+    if text.is_empty() {
+        return Err(LineFault::Faulty(Cause::Arguments));
+    }
+    let text = Bytes::of(alloc, text)?;
+    Ok(Order::Offer { line, client, text })
+}
+
+/// `backup M`, `backup off`, `backup lose`
+#[tactic(auto, unfolding(crate::specs::Spelling::backup_of))]
+fn backup(line: u64, args: &[u8]) -> Result<Order, LineFault>
+    ensures { Gives result (backup_spells line args.now) }
+{
+    if args == b"off".as_slice() {
+        return Ok(Order::BackupOff { line });
+    }
+    if args == b"lose".as_slice() {
+        return Ok(Order::BackupLose { line });
+    }
+    let member = number_of(args)?;
+    Ok(Order::Backup { line, member })
+}
+
 /// The order of a first word and the text behind its space.
 #[tactic(auto, unfolding(crate::specs::Spelling::order_of))]
 fn order_of(alloc: Global, line: u64, keyword: Keyword, args: &[u8]) -> Result<Order, LineFault>
@@ -124,6 +152,8 @@ fn order_of(alloc: Global, line: u64, keyword: Keyword, args: &[u8]) -> Result<O
         Keyword::Fuse => fuse(line, args),
         Keyword::Replay => replay(line, args),
         Keyword::Free => free(line, args),
+        Keyword::Offer => offer(alloc, line, args),
+        Keyword::Backup => backup(line, args),
     }
 }
 

@@ -75,6 +75,35 @@ fn rounds_add_up(rt: HostRuntime) -> Result<(), Fail> {
 }
 
 #[test]
+fn a_client_is_joined_or_ordered(rt: HostRuntime) -> Result<(), Fail> {
+    let table = [
+        ("join 0\njoin 0", at(4, Cause::Joined)),
+        ("join 0\nconnect 0 0", at(4, Cause::Joined)),
+        ("join 0\nsend 0 0 x", at(4, Cause::Joined)),
+        ("join 0\nsendhex 0 0 -", at(4, Cause::Joined)),
+        ("join 0\nclose 0 0", at(4, Cause::Joined)),
+        ("join 0\nkeepalive 0 0", at(4, Cause::Joined)),
+        ("join 0\nbytes 0 0 00", at(4, Cause::Joined)),
+        ("connect 0 0\njoin 0", at(4, Cause::Joined)),
+        ("send 0 0 x\njoin 0", at(4, Cause::Joined)),
+        ("sendhex 0 0 -\njoin 0", at(4, Cause::Joined)),
+        ("close 0 0\njoin 0", at(4, Cause::Joined)),
+        ("keepalive 0 0\njoin 0", at(4, Cause::Joined)),
+        ("bytes 0 0 -\njoin 0", at(4, Cause::Joined)),
+        ("offer 0 x", at(3, Cause::NotJoined)),
+        ("connect 0 0\noffer 0 x", at(4, Cause::NotJoined)),
+        ("join 1\noffer 0 x", at(4, Cause::NotJoined)),
+        ("join 64", at(3, Cause::Range)),
+        ("join 0\nconnect 1 0\njoin 63\noffer 63 x\noffer 0 x", None),
+    ];
+    for (lines, want) in &table {
+        let fault = fault_behind(rt.alloc(), HEADER.as_bytes(), lines.as_bytes())?;
+        assert_eq!(rt; fault, *want, "{lines:?}");
+    }
+    Ok(())
+}
+
+#[test]
 fn ends_of_ranges(rt: HostRuntime) -> Result<(), Fail> {
     let good = [
         "rounds 1",
@@ -102,6 +131,10 @@ fn ends_of_ranges(rt: HostRuntime) -> Result<(), Fail> {
         "replay 0 1 256",
         "free on",
         "free off",
+        "join 63",
+        "backup 2",
+        "backup off",
+        "backup lose",
     ];
     for line in &good {
         let fault = fault_behind(rt.alloc(), HEADER.as_bytes(), line.as_bytes())?;
@@ -145,6 +178,9 @@ fn ends_of_ranges(rt: HostRuntime) -> Result<(), Fail> {
         "rounds 999999999999999999999999999999999999999999999999999999999999999999",
         "connect 0 340282366920938463463374607431768211456",
         "action 18446744073709551616",
+        "join 64",
+        "offer 64 x",
+        "backup 3",
     ];
     for line in &bad {
         let fault = fault_behind(rt.alloc(), HEADER.as_bytes(), line.as_bytes())?;
@@ -191,6 +227,14 @@ fn spellings(rt: HostRuntime) -> Result<(), Fail> {
         "members",
         "members x",
         "stop 99999999999999999999x",
+        "join",
+        "join 0 0",
+        "offer 0",
+        "offer 0 ",
+        "backup",
+        "backup on",
+        "backup 0 0",
+        "backup lose ",
     ];
     for line in &bad {
         let fault = fault_behind(rt.alloc(), HEADER.as_bytes(), line.as_bytes())?;
@@ -296,10 +340,11 @@ fn every_order_is_printed(rt: HostRuntime) -> Result<(), Fail> {
     let text = "members 4\nservice ledger\nservice ticker\nservice echo\nrounds 40\nquiet 1\n\
         connect 63 3\nsend 0 1  a b \nsendhex 0 0 -\nsendhex 5 2 00ff9a\nclose 1 0\nkeepalive 10 0\n\
         bytes 0 0 7f\naction 0\nstop 1\nstart 1\ninvalidate 2\nfuse 0 0 drop\nfuse 1 1000 keep\n\
-        fuse 2 7 0a\ncut 0 1\nheal 1 2\nlose 3 0\nreplay 0 1 256\nfree on\nfree off\n";
+        fuse 2 7 0a\ncut 0 1\nheal 1 2\nlose 3 0\nreplay 0 1 256\nfree on\nfree off\njoin 2\noffer 2  a b \nbackup 0\n\
+        backup off\nbackup lose\n";
     let Reading { orders, fault } = read(rt.alloc(), text.as_bytes())?;
     assert_eq!(rt; fault, None);
-    assert_eq!(rt; orders.len(), 26);
+    assert_eq!(rt; orders.len(), 31);
     let printed = print(rt.alloc(), orders.as_slice())?;
     assert_eq!(rt; printed.as_slice(), text.as_bytes());
     Ok(())
@@ -329,6 +374,8 @@ fn causes_are_spelled(rt: HostRuntime) {
         (Cause::Range, "range"),
         (Cause::Header, "header"),
         (Cause::Rounds, "rounds"),
+        (Cause::Joined, "joined"),
+        (Cause::NotJoined, "not joined"),
         (Cause::NotBuilt, "not built"),
     ];
     for (cause, text) in table {

@@ -1,13 +1,12 @@
 // What the orders so far tell of those that may follow.
-ghost use Rattle.std.specs.Prelude.{◌≡◌, ◌<◌, ◌≤◌, ◌+◌, ◌^◌, [], IfOk};
+ghost use Rattle.std.specs.Prelude.{◌≡◌, ◌<◌, ◌≤◌, ◌+◌, ◌^◌, [], IfOk, true};
 ghost use Rattle.scenario.specs.Orders.{in_range, may_come as order_may_come, is_service as names_service, rounds_in, members_after, forbidden, unless, told_after, told_by, at_end as fault_at_end, is_link as link};
+ghost use Rattle.scenario.specs.Naming.{barred, clients_after};
 
 use crate::fault::{Cause, Refusal};
+use crate::naming::{CLIENTS_LIMIT, ClientUse, naming_of};
 use crate::order::Order;
 use cl_base::limits::{MEMBERS_LIMIT, REPLAY_LIMIT, ROUNDS_LIMIT, SERVICES_LIMIT};
-
-/// The most clients.
-const CLIENTS_LIMIT: u64 = 64;
 
 /// The most calls that a fuse lets pass.
 const FUSE_LIMIT: u64 = 1_000;
@@ -23,6 +22,8 @@ pub struct Told {
     pub services: u64,
     /// The rounds in all.
     pub rounds: u64,
+    /// What each client is used for, by its number.
+    pub clients: [ClientUse; 64],
 }
 
 impl Told {
@@ -35,6 +36,7 @@ impl Told {
             members: u64::from(MEMBERS_LIMIT),
             services: 0,
             rounds: 0,
+            clients: [ClientUse::Unused; 64],
         }
     }
 
@@ -55,12 +57,33 @@ impl Told {
         if rounds > ROUNDS_LIMIT {
             return Err(Cause::Rounds);
         }
+        let clients = self.clients_with(order)?;
         Ok(Told {
             orders: self.orders + 1,
             members: members_of(order, self.members),
             services: self.services + u64::from(is_service(order)),
             rounds,
+            clients,
         })
+    }
+
+    /// What the clients are used for once the order has come too, or the cause by which its client keeps it from coming.
+    #[tactic(auto, using(crate::proofs::Namings::named_within))]
+    fn clients_with(self, order: &Order) -> Result<[ClientUse; 64], Cause>
+        requires { in_range self.members order.now ≡ true }
+        ensures { result ≡ unless (barred self.clients order.now) (clients_after self.clients order.now) }
+    {
+        let Some((naming, client)) = naming_of(order) else {
+            return Ok(self.clients);
+        };
+        let client = client as usize;
+        let before = self.clients[client];
+        if let Some(cause) = before.barred(naming) {
+            return Err(cause);
+        }
+        let mut clients = self.clients;
+        clients[client] = before.after(naming);
+        Ok(clients)
     }
 
     /// Whether an order is at its place.
@@ -126,7 +149,11 @@ fn is_in_range(order: &Order, members: u64) -> bool
 {
     match order {
         Order::Members { members: count, .. } => 1 <= *count && *count <= u64::from(MEMBERS_LIMIT),
-        Order::Service { .. } | Order::FreeOn { .. } | Order::FreeOff { .. } => true,
+        Order::Service { .. }
+        | Order::FreeOn { .. }
+        | Order::FreeOff { .. }
+        | Order::BackupOff { .. }
+        | Order::BackupLose { .. } => true,
         Order::Rounds { rounds, .. } | Order::Quiet { rounds, .. } => {
             1 <= *rounds && *rounds <= ROUNDS_LIMIT
         }
@@ -139,7 +166,9 @@ fn is_in_range(order: &Order, members: u64) -> bool
         Order::Action { member, .. }
         | Order::Stop { member, .. }
         | Order::Start { member, .. }
-        | Order::Invalidate { member, .. } => *member < members,
+        | Order::Invalidate { member, .. }
+        | Order::Backup { member, .. } => *member < members,
+        Order::Join { client, .. } | Order::Offer { client, .. } => *client < CLIENTS_LIMIT,
         Order::Fuse { member, calls, .. } => *member < members && *calls <= FUSE_LIMIT,
         Order::Cut { from, to, .. } | Order::Heal { from, to, .. } | Order::Lose { from, to, .. } =>
             { is_link(*from, *to, members) }

@@ -91,7 +91,7 @@ fn word_of(text: &[u8]) -> Result<(&[u8], &[u8]), LineFault>
 
 /// A number that must come, and the text behind its space.
 #[tactic(auto, unfolding(crate::specs::Words::number_and_rest))]
-fn first_number(text: &[u8]) -> Result<(u64, &[u8]), LineFault>
+pub fn first_number(text: &[u8]) -> Result<(u64, &[u8]), LineFault>
     ensures { GivesBy (λ p. (p.0, p.1.now)) result (number_and_rest text.now) }
 {
     let (word, rest) = word_of(text)?;

@@ -2,7 +2,7 @@ use Rattle.std.proofs.Common.{◌++◌, codes, string_bytes}
 use Rattle.std.specs.Fmt.{decimal}
 use Rattle.std.proofs.lemmas.Result.{on_ok_weaker}
 use Rattle.echo_run.specs.Pieces.{newline}
-use Rattle.echo_run.specs.Status.{cause_text}
+use Rattle.scenario.specs.Causes.{cause_text}
 use Rattle.echo_run.proofs.Chains.{joined}
 use Rattle.echo_run.proofs.status.put_refusal.Goals as goal
 
