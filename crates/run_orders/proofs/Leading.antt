@@ -1,5 +1,5 @@
 -- Relations of worlds that acts lead along.
-use Rattle.std.proofs.Common.{◌≡◌, ℕ, zero, suc, Bool, true, false, List, [], ◌∷◌, ◌++◌, map, Option, Some, None, refl, sym, ap, ◌∙◌, ◌⊎◌, inl, inr}
+use Rattle.std.proofs.Common.{◌≡◌, ℕ, zero, suc, Bool, true, false, List, [], ◌∷◌, ◌++◌, Option, Some, None, refl, sym, ap, ◌∙◌}
 use Rattle.service_api.specs.declared.shipped.Kind.{Kind}
 use Rattle.run_world.specs.Seat.{Fate}
 use Rattle.run_world.specs.RunWorld.{RunWorld, Act, Begins, Closes, Sends, Fails, does, after_acts}

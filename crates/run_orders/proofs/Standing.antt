@@ -1,5 +1,5 @@
 -- What goes on to stand to a world.
-use Rattle.std.proofs.Common.{◌≡◌, ℕ, zero, suc, ℤ, List, [], ◌∷◌, set, refl, sym, ap, ◌∙◌}
+use Rattle.std.proofs.Common.{◌≡◌, ℕ, zero, suc, ℤ, List, [], ◌∷◌, set, ap, ◌∙◌}
 use Rattle.cl_base.specs.Disk.{DiskState}
 use Rattle.consensus_core.specs.Member.{Sent as Packet}
 use Rattle.member_module.specs.Held.{Held as ModuleHeld, at_end}

@@ -4,7 +4,7 @@ use Rattle.service_api.specs.declared.shipped.Kind.{Kind}
 use Rattle.scenario.specs.declared.order.Order.{Order}
 use Rattle.scenario.specs.declared.order.Order.TheVariants as orders
 use Rattle.run_world.specs.Seat.{Fate}
-use Rattle.run_world.specs.RunWorld.{RunWorld, Act, Starts, Stops, Invalidates, Fuses, Cuts, Heals, Loses, Replays, does, first_world}
+use Rattle.run_world.specs.RunWorld.{RunWorld, Act, Starts, Stops, Invalidates, Fuses, Cuts, Heals, Loses, Replays, first_world}
 use Rattle.run_orders.specs.Phases.{Beside, Ending, Called}
 use Rattle.run_orders.specs.Rounds.{Asked, Rounds}
 

@@ -33,7 +33,7 @@ pub record AllHanded (kinds : List Kind) (free : Bool) (w v : RunWorld) : Type 0
 
 -- a backup's query is answered, or there is none: nothing changes, but that a disk may fail as it is read
 abbrev pub Answered : List Kind → Bool → RunWorld → RunWorld → Type 0
-Answered kinds free w v = Beside kinds free w v ⊎ ((m own : ℕ) × Called kinds free (Fails m own) w v)
+Answered kinds free w v = Beside kinds free w v ⊎ ((m : ℕ) × (own : ℕ) × Called kinds free (Fails m own) w v)
 
 -- so many clients that joined have made a step, each of which may send a message to some member
 abbrev pub AllJoined : List Kind → Bool → ℕ → RunWorld → RunWorld → Type 0

@@ -79,13 +79,13 @@ pub record HasModule (kinds : List Kind) (m : ModuleHeld) (s : Seat) : Type 0 wh
   pub alive : m.alive ≡ s.alive
   pub since : m.since ≡ s.since
 
--- the container of the service of this number, which began with the first entries of a log, consumed these
-pub record HasInput (kind : Kind) (base : ℕ) (log : Log) (service : ℕ) (c : ContainerHeld) (xs : Log) : Type 0 where
-  pub service : c.service ≡ service
-  pub base : c.base ≡ base
-  pub inputs : xs ≡ take base log ++ c.inputs
+-- the container of the service of this number, which began with so many first entries of a log, consumed these
+pub record HasInput (kind : Kind) (count : ℕ) (log : Log) (number : ℕ) (c : ContainerHeld) (xs : Log) : Type 0 where
+  pub service : c.service ≡ number
+  pub base : c.base ≡ count
+  pub inputs : xs ≡ take count log ++ c.inputs
   pub state : c.state ≡ state_of kind xs
-  pub records : c.records ≡ records_from (state_of kind (take base log)) base c.inputs
+  pub records : c.records ≡ records_from (state_of kind (take count log)) count c.inputs
   pub whole : c.whole ≡ true
 
 -- the containers of the services from a number on
@@ -141,10 +141,15 @@ more_sent streams s = sent_more s streams
 -- all that was sent, in order, stands on its streams; and but for direct answers, which no entry owes, it is these records
 pub record AreRecords (streams : List StreamSeen) (records : List Output) : Type 0 where
   pub all : List Sent
-  pub streams : streams ≡ fold more_sent [] all
-  pub records : Each2 IsRecord records (filter has_entry all)
+  pub stand : streams ≡ fold more_sent [] all
+  pub each : Each2 IsRecord records (filter has_entry all)
 
 -- ---- a member
+
+-- the disk, wherever it is
+abbrev pub disk_of : {D : Type 0} → HomeSeen D → D
+disk_of (Up u going) = u.disk.disk
+disk_of (Down disk) = disk
 
 module _ {D : Type 0} (state : D → DiskState) (kinds : List Kind) where
   -- a member that runs
@@ -177,11 +182,6 @@ module _ {D : Type 0} (state : D → DiskState) (kinds : List Kind) where
   abbrev pub IsHome : HomeSeen D → Seat → Type 0
   IsHome (Up u going) s = IsUp u going s
   IsHome (Down disk) s = IsDown disk s
-
-  -- the disk, wherever it is
-  abbrev pub disk_of : HomeSeen D → D
-  disk_of (Up u going) = u.disk.disk
-  disk_of (Down disk) = disk
 
   -- a member
   pub record IsSeat (x : SeatSeen D) (s : Seat) : Type 0 where

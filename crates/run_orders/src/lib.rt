@@ -2,7 +2,6 @@
 #![tactic(auto)]
 
 ghost use Rattle.std.specs.Prelude.{◌≡◌, ◌≤◌, ℕ, List, length};
-ghost use Rattle.cl_base.specs.Disk.{DiskState};
 ghost use Rattle.consensus_core.specs.Member.{Sent as Packet};
 ghost use Rattle.member_module.specs.Held.{Held as ModuleHeld, at_end};
 ghost use Rattle.module_state.specs.Due.{due};
@@ -14,6 +13,8 @@ ghost use Rattle.run_world.specs.Seat.{Seat};
 ghost use Rattle.run_orders.specs.Orders.{Course, GotTo, Ran, Step};
 ghost use Rattle.run_orders.specs.Phases.{Leads};
 ghost use Rattle.run_orders.specs.Stands.{HasModule, IsSeat, RunSeen, SeatSeen, Stands, seen_put};
+
+use cl_base::Disk;
 
 /// Whatever an order makes of a world, acts make of it: the clock's, the network's, a member's, its disk's and its services' threads'.
 pub fn are_acts()
@@ -29,12 +30,12 @@ pub fn is_safe_in_runs()
 {}
 
 /// What a driver has stands to a world still once a member becomes the same on both sides, sends the same packets and has what it has committed printed.
-pub fn goes_on()
-    ensures { (D : Type 0) (state : D → DiskState) (kinds : List Kind) (x : RunSeen D) (w : RunWorld) (m : ℕ) (y : SeatSeen D) (s : Seat) (ps : List Packet) → Stands state kinds x w → IsSeat state kinds y s → Stands state kinds (seen_put m y ps (committed s.member) x) (put m s ps w) }
+pub fn goes_on<D: Disk>()
+    ensures { (kinds : List Kind) (x : RunSeen D) (w : RunWorld) (m : ℕ) (y : SeatSeen D) (s : Seat) (ps : List Packet) → Stands D.state kinds x w → IsSeat D.state kinds y s → Stands D.state kinds (seen_put m y ps (committed s.member) x) (put m s ps w) }
 {}
 
 /// A module that stands to a world sees at its log's end, and finds due, what is there and is due in that world.
 pub fn sees_its_world()
-    ensures at_end { (kinds : List Kind) (m : ModuleHeld) (s : Seat) → HasModule kinds m s → at_end m ≡ view_at kinds s }
-    ensures due { (kinds : List Kind) (m : ModuleHeld) (s : Seat) (now : ℕ) → HasModule kinds m s → due m.state (at_end m) m.ahead.events m.alive s.member.values.election.term now m.since ≡ due_at kinds s now }
+    ensures view { (kinds : List Kind) (m : ModuleHeld) (s : Seat) → HasModule kinds m s → at_end m ≡ view_at kinds s }
+    ensures finds { (kinds : List Kind) (m : ModuleHeld) (s : Seat) (now : ℕ) → HasModule kinds m s → due m.state (at_end m) m.ahead.events m.alive s.member.values.election.term now m.since ≡ due_at kinds s now }
 {}

@@ -1,4 +1,4 @@
-use Rattle.std.proofs.Common.{◌≡◌, ℕ, ◌≤◌, List, length, sym, subst}
+use Rattle.std.proofs.Common.{ℕ, ◌≤◌, List, length, sym, subst}
 use Rattle.service_api.specs.declared.shipped.Kind.{Kind}
 use Rattle.run_world.specs.Headline.{Headline}
 use Rattle.run_world.specs.RunWorld.{RunWorld, first_world}
