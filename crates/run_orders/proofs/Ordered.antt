@@ -78,6 +78,11 @@ module _ (kinds : List Kind) where
   step c (orders.Replay line from to latest) w v z = called kinds c.free (Replays from to latest) w v z
   step c (orders.FreeOn line) w v z = beside kinds true w v z
   step c (orders.FreeOff line) w v z = ending kinds c.free w v z
+  step c (orders.Join line client) w v z = beside kinds c.free w v z
+  step c (orders.Offer line client text) w v z = asked c.free z.0 w v z.1
+  step c (orders.Backup line m) w v z = beside kinds c.free w v z
+  step c (orders.BackupOff line) w v z = beside kinds c.free w v z
+  step c (orders.BackupLose line) w v z = beside kinds c.free w v z
 
   -- ---- runs
 

@@ -19,6 +19,7 @@ first_course = record { free = false; joined = 0 }
 abbrev pub course_after : Course → Order → Course
 course_after c (orders.FreeOn line) = record c { free = true }
 course_after c (orders.FreeOff line) = record c { free = false }
+course_after c (orders.Join line client) = record c { joined = suc c.joined }
 course_after c _ = c
 
 abbrev pub course_of : List Order → Course
@@ -51,6 +52,11 @@ Step kinds c (orders.Lose line from to) w v = Called kinds c.free (Loses from to
 Step kinds c (orders.Replay line from to latest) w v = Called kinds c.free (Replays from to latest) w v
 Step kinds c (orders.FreeOn line) w v = Beside kinds true w v
 Step kinds c (orders.FreeOff line) w v = Ending kinds c.free w v
+Step kinds c (orders.Join line client) w v = Beside kinds c.free w v
+Step kinds c (orders.Offer line client text) w v = (m : ℕ) × Asked kinds c.free m w v
+Step kinds c (orders.Backup line m) w v = Beside kinds c.free w v
+Step kinds c (orders.BackupOff line) w v = Beside kinds c.free w v
+Step kinds c (orders.BackupLose line) w v = Beside kinds c.free w v
 
 -- what orders may make of a first world
 pub data Reached (kinds : List Kind) (first : RunWorld) : List Order → RunWorld → Type 0 where

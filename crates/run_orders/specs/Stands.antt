@@ -1,5 +1,5 @@
 -- How what the driver of a run has stands to the world of the run, between two of its calls.
-use Rattle.std.specs.Prelude.{◌≡◌, ⊤, ℕ, zero, suc, ℤ, Bool, true, false, IsTrue, is_some, List, [], ◌∷◌, ◌++◌, length, map, filter, fold, set, take, drop, Option, Some, None}
+use Rattle.std.specs.Prelude.{◌≡◌, ◌≤◌, ⊤, ℕ, zero, suc, ℤ, Bool, true, false, IsTrue, is_some, List, [], ◌∷◌, ◌++◌, length, map, filter, fold, set, take, drop, Option, Some, None}
 use Rattle.cl_base.specs.Disk.{DiskState}
 use Rattle.cl_base.specs.declared.disk.Choice.{Choice}
 use Rattle.cl_base.specs.declared.entry.Entry.{Entry}
@@ -151,6 +151,11 @@ abbrev pub disk_of : {D : Type 0} → HomeSeen D → D
 disk_of (Up u going) = u.disk.disk
 disk_of (Down disk) = disk
 
+-- the same, on this disk
+abbrev pub with_disk : {D : Type 0} → D → HomeSeen D → HomeSeen D
+with_disk d (Up u going) = Up (record u { disk = record { kept = u.disk.kept; whole = u.disk.whole; disk = d } }) going
+with_disk d (Down disk) = Down d
+
 module _ {D : Type 0} (state : D → DiskState) (kinds : List Kind) where
   -- a member that runs
   pub record IsUp (u : UpSeen D) (going : Bool) (s : Seat) : Type 0 where
@@ -162,6 +167,7 @@ module _ {D : Type 0} (state : D → DiskState) (kinds : List Kind) where
     pub durable : IsStateOf u.disk.kept (state u.disk.disk).files s.member.durable
     pub has_module : HasModule kinds u.module_held s
     pub first : u.base ≡ s.run.first
+    pub within : u.base ≤ length s.member.durable.log
     pub inputs : HaveInputs kinds u.base s.member.durable.log 0 (containers_of going u.lending) s.run.inputs
     pub phase : IsPhase going u.role u.over s.phase
 

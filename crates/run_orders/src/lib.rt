@@ -1,7 +1,10 @@
 //! The orders of a scenario as acts of the world of a run; and that what is promised of every list of acts holds of every run of orders.
 #![tactic(auto)]
 
-ghost use Rattle.std.specs.Prelude.{◌≡◌, ◌≤◌, ℕ, List, length};
+ghost use Rattle.std.specs.Prelude.{◌≡◌, ◌≤◌, ℕ, Bool, List, Some, length};
+ghost use Rattle.cl_base.specs.Disk.{CrashLeaves, IsImage};
+ghost use Rattle.cl_base.specs.declared.disk.Choice.{Choice};
+ghost use Rattle.cl_base.specs.declared.disk.Choice.TheVariants.{Keep};
 ghost use Rattle.consensus_core.specs.Member.{Sent as Packet};
 ghost use Rattle.member_module.specs.Held.{Held as ModuleHeld, at_end};
 ghost use Rattle.module_state.specs.Due.{due};
@@ -9,10 +12,10 @@ ghost use Rattle.service_api.specs.declared.shipped.Kind.{Kind};
 ghost use Rattle.scenario.specs.declared.order.Order.{Order};
 ghost use Rattle.run_world.specs.Headline.{Headline};
 ghost use Rattle.run_world.specs.RunWorld.{RunWorld, committed, due_at, first_world, put, view_at};
-ghost use Rattle.run_world.specs.Seat.{Seat};
+ghost use Rattle.run_world.specs.Seat.{Seat, fused, rested};
 ghost use Rattle.run_orders.specs.Orders.{Course, GotTo, Ran, Step};
 ghost use Rattle.run_orders.specs.Phases.{Leads};
-ghost use Rattle.run_orders.specs.Stands.{HasModule, IsSeat, RunSeen, SeatSeen, Stands, seen_put};
+ghost use Rattle.run_orders.specs.Stands.{HasModule, IsDown, IsSeat, IsUp, RunSeen, SeatSeen, Stands, UpSeen, disk_of, seen_put, with_disk};
 
 use cl_base::Disk;
 
@@ -38,4 +41,16 @@ pub fn goes_on<D: Disk>()
 pub fn sees_its_world()
     ensures view { (kinds : List Kind) (m : ModuleHeld) (s : Seat) → HasModule kinds m s → at_end m ≡ view_at kinds s }
     ensures finds { (kinds : List Kind) (m : ModuleHeld) (s : Seat) (now : ℕ) → HasModule kinds m s → due m.state (at_end m) m.ahead.events m.alive s.member.values.election.term now m.since ≡ due_at kinds s now }
+{}
+
+/// What a driver has of a member stands to a world still once its disk's fuse is set on both sides.
+pub fn a_fuse_is_set<D: Disk>()
+    ensures { (kinds : List Kind) (x : SeatSeen D) (s : Seat) (d : D) (calls : ℕ) (choice : Choice) → IsSeat D.state kinds x s → D.state d ≡ record (D.state (disk_of x.home)) { lets = Some calls }
+        → IsSeat D.state kinds (record { home = with_disk d x.home; choice = choice; ended = x.ended }) (fused calls choice s) }
+{}
+
+/// A member that runs and stops at rest leaves a disk that stands for what it kept: one image of a disk is what a read gives of it.
+pub fn a_stop_rests<D: Disk>()
+    ensures { (kinds : List Kind) (u : UpSeen D) (going : Bool) (s : Seat) (own : ℕ) (d : D) → ((f : ℕ) → IsImage ((D.state u.disk.disk).files f) ((D.state u.disk.disk).files f).reads) → CrashLeaves Keep (D.state u.disk.disk) (D.state d)
+        → IsUp D.state kinds u going s → IsDown D.state kinds d (rested own s) }
 {}
