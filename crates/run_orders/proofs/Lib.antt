@@ -1,0 +1,4 @@
+pub mod Leading
+pub mod Ordered
+pub mod Standing
+pub mod Resting

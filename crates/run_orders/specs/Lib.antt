@@ -1,0 +1,5 @@
+pub mod Phases
+pub mod Rounds
+pub mod Orders
+pub mod Kept
+pub mod Stands
