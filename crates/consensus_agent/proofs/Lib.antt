@@ -3,6 +3,7 @@ pub mod Batches
 pub mod Commits
 pub mod Due
 pub mod Entries
+pub mod Found
 pub mod Phasing
 pub mod Running
 pub mod Sets
