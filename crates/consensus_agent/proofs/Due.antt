@@ -1,5 +1,5 @@
 -- What is due is of the term that was asked for.
-use Rattle.std.proofs.Common.{◌≡◌, ℕ, suc, ◌+◌, ℤ, pos, Bool, true, false, List, [], ◌∷◌, ◌++◌, refl}
+use Rattle.std.proofs.Common.{◌≡◌, inl, ℕ, suc, ◌+◌, ℤ, pos, Bool, true, false, List, [], ◌∷◌, ◌++◌, refl, ap, ◌∙◌}
 use Rattle.std.specs.Prelude.{All}
 use Rattle.std.proofs.lemmas.List.Elements.{All-nil, All-cons, All-append}
 use Rattle.sbe_events.specs.Spelling.{term_of}
@@ -10,7 +10,16 @@ use Rattle.timer_service.specs.Timers.{TimerTable}
 use Rattle.pending_messages.specs.Pending.{PendingTable}
 use Rattle.module_state.specs.Module.{Module}
 use Rattle.module_state.specs.Due.{is_silent, is_marked, close_of, close_due, closes_due, over, rings_of, messages_of, messages_due, due}
+use Rattle.entry_log.specs.Shape.{Shape, shape_of}
+use Rattle.member_disk.specs.Kept.{Kept}
+use Rattle.consensus_core.specs.declared.change.Change.{Change}
+use Rattle.election.specs.declared.member.State.{State}
+use Rattle.election.specs.declared.member.State.TheVariants.{LeaderReady}
+use Rattle.consensus_core.specs.declared.values.Values.{Values}
+use Rattle.consensus_core.specs.Member.{is_ready}
+use Rattle.consensus_core.specs.Reign.{duty_at, does_duty}
 use Rattle.consensus_core.proofs.Fitting.{choice}
+use Rattle.consensus_agent.specs.Rows.{CutRow}
 
 abbrev pub OfTerm : ℤ → List Event → Type 0
 OfTerm term es = All (λ e. term_of e ≡ term) es
@@ -46,3 +55,20 @@ pub due_of_term : (es : List Event) (consumed tentative : Module) (ahead : List 
 due_of_term es consumed tentative ahead alive term now since is =
     rw is (All-append (Is term) _ _ (closes_are consumed.sessions alive term now since tentative.sessions.listed)
     (All-append (Is term) _ _ (rings_are term now (over ahead now consumed.timers)) (all_messages_are term now 0 tentative.pending)))
+
+-- what is due is asked only of who is ready to lead
+pub same_duty : (s : State) (v : Values) (xs : Shape) (es fs : List Event) (now : ℕ) → (is_ready s ≡ true → es ≡ fs) → duty_at s v xs es now ≡ duty_at s v xs fs now
+same_duty LeaderReady v xs es fs now same = ap (λ due. duty_at LeaderReady v xs due now) (same refl)
+same_duty _ v xs es fs now same = refl
+
+-- the row of a duty, by what was due
+pub duty_row : (v u : Values) (a k : Kept) (slice es fs : List Event) (now : ℕ) → u ≡ v → k ≡ a → slice ≡ es → (is_ready v.election.state ≡ true → es ≡ fs) → does_duty u (shape_of k.log) slice now ≡ does_duty v (shape_of a.log) fs now
+duty_row v u a k slice es fs now values kept is same =
+    ap (λ z. does_duty z (shape_of k.log) slice now) values
+    ∙ ap (λ (z : Kept). does_duty v (shape_of z.log) slice now) kept
+    ∙ ap (λ z. does_duty v (shape_of a.log) z now) is
+    ∙ same_duty v.election.state v (shape_of a.log) es fs now same
+
+-- a row that wasn't begun
+pub cut_none : (change : Change) (a b : Kept) → b ≡ a → CutRow change a b
+cut_none change a b is = inl (record { node = ap (λ (k : Kept). k.node) is; log = ap (λ (k : Kept). k.log) is })

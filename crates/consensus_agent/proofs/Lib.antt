@@ -3,7 +3,10 @@ pub mod Batches
 pub mod Commits
 pub mod Due
 pub mod Entries
+pub mod Found
+pub mod Orders
 pub mod Phasing
+pub mod Refusals
 pub mod Running
 pub mod Sets
 pub mod Shapes

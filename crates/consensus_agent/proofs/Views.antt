@@ -22,7 +22,7 @@ use Rattle.consensus_core.specs.Standing.{Standing, CanFollow}
 use Rattle.consensus_core.proofs.Measured.{event_short}
 use Rattle.ingress.specs.declared.view.View.{View}
 use Rattle.ingress.specs.Decisions.{IsAdmitted}
-use Rattle.consensus_agent.specs.Accepted.{HasRoom, IsAccepted}
+use Rattle.consensus_agent.specs.Accepted.{HasRoom, IsAppended}
 use Rattle.consensus_agent.specs.Rows.{IsKept}
 use Rattle.consensus_agent.specs.Sound.{NamesVote, HasAhead, IsSound}
 use Rattle.consensus_agent.proofs.Ahead.{ahead_grown}
@@ -124,7 +124,7 @@ admitted_room v k w actions now e admitted ready term place = record {
 }
 
 -- the entry of an order is at its index
-pub accepted : (i : ℕ) (v : Values) (a b : Kept) (e : Event) (x : Entry) → HasRoom v a e → i ≡ length a.log → x.term ≡ v.election.term → x.bytes ≡ spelling_of e → IsKept a.node (a.log ++ x ∷ []) b → IsAccepted i v.election.term a b
-accepted i v a b e x room index term bytes kept =
+pub appended : (i : ℕ) (v : Values) (a b : Kept) (e : Event) (x : Entry) → HasRoom v a e → i ≡ length a.log → x.term ≡ v.election.term → x.bytes ≡ spelling_of e → IsKept a.node (a.log ++ x ∷ []) b → IsAppended i e a b
+appended i v a b e x room index term bytes kept =
     let is : x ≡ entry_of e = entry_is e x (term ∙ sym room.term) bytes in
-    record { event = e; of_term = room.term; index = index; kept = record { node = kept.node; log = kept.log ∙ ap (λ (y : Entry). a.log ++ y ∷ []) is } }
+    record { index = index; kept = record { node = kept.node; log = kept.log ∙ ap (λ (y : Entry). a.log ++ y ∷ []) is } }

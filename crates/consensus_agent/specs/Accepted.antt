@@ -1,15 +1,26 @@
--- What an order of a client, or an action, leaves on a member's disk.
-use Rattle.std.specs.Prelude.{◌≡◌, ℕ, ◌≤◌, ℤ, [], ◌∷◌, ◌++◌, length}
-use Rattle.entry_log.specs.Log.{end_after}
+-- What an order of a client, or an action, leaves of a member.
+use Rattle.std.specs.Prelude.{◌≡◌, ⊤, ℕ, ◌≤◌, ℤ, true, List, [], ◌∷◌, ◌++◌, length, take, Some}
+use Rattle.wire_prims.specs.declared.fault.Bad.{Bad}
+use Rattle.entry_log.specs.Log.{Log, end_after}
 use Rattle.entry_log.specs.Shape.{shape_of, end_of}
 use Rattle.election.specs.declared.member.State.TheVariants.{LeaderReady}
+use Rattle.sbe_client.specs.Reading.{ReadsIngress, first_fault_ingress}
+use Rattle.sbe_client.specs.declared.ingress.Ingress.{Ingress}
 use Rattle.sbe_events.specs.Spelling.{spelling_of, term_of}
 use Rattle.sbe_events.specs.declared.event.Event.{Event}
 use Rattle.member_disk.specs.Kept.{Kept}
+use Rattle.module_state.specs.Module.{Module}
+use Rattle.member_module.specs.Held.{Held as ModuleHeld, at_end}
 use Rattle.consensus_core.specs.declared.values.Values.{Values}
+use Rattle.consensus_core.specs.Fit.{leader_number}
+use Rattle.consensus_core.specs.Member.{is_ready}
 use Rattle.consensus_core.specs.Reign.{entry_of}
+use Rattle.ingress.specs.declared.decision.Decided.{Decided}
+use Rattle.ingress.specs.declared.decision.Decided.TheVariants as decisions
 use Rattle.ingress.specs.declared.outcome.Outcome.{Outcome}
 use Rattle.ingress.specs.declared.outcome.Outcome.TheVariants as outcome
+use Rattle.ingress.specs.declared.view.View.{View}
+use Rattle.ingress.specs.Decisions.{Admits, decided, decided_action}
 use Rattle.consensus_agent.specs.Rows.{IsKept}
 
 -- an event of a leader's term that has room behind its log
@@ -18,14 +29,109 @@ pub record HasRoom (v : Values) (k : Kept) (e : Event) : Type 0 where
   pub term : term_of e ≡ v.election.term
   pub room : end_after (end_of (shape_of k.log)) (length (spelling_of e)) ≤ 16777216
 
+-- the entry of this event stands behind the log, at this index
+pub record IsAppended (i : ℕ) (e : Event) (a b : Kept) : Type 0 where
+  pub index : i ≡ length a.log
+  pub kept : IsKept a.node (a.log ++ entry_of e ∷ []) b
+
 -- an event of this term stands behind the log, at this index
 pub record IsAccepted (i : ℕ) (term : ℤ) (a b : Kept) : Type 0 where
   pub event : Event
   pub of_term : term_of event ≡ term
-  pub index : i ≡ length a.log
-  pub kept : IsKept a.node (a.log ++ entry_of event ∷ []) b
+  pub appended : IsAppended i event a b
 
 -- what an outcome says of the disk, by the term: an entry at its index, or nothing new
 abbrev pub Leaves : Outcome → ℤ → Kept → Kept → Type 0
 Leaves (outcome.Accepted i) term a b = IsAccepted i term a b
 Leaves _ term a b = b ≡ a
+
+-- ---- what is decided
+
+-- what a member with this module at its log's end decides on
+pub record IsView (w : View) (v : Values) (log : Log) (t : Module) : Type 0 where
+  pub ready : w.ready ≡ is_ready v.election.state
+  pub leader : w.leader ≡ leader_number v.election.leader
+  pub term : w.term ≡ v.election.term
+  pub place : w.place ≡ end_of (shape_of log)
+  pub commit : w.commit_place ≡ end_of (take v.rest.commit (shape_of log))
+  pub sessions : w.ready ≡ true → w.sessions.now.table ≡ t.sessions
+
+-- the decision on a client's bytes: the first row of the table of outcomes that applies, or an event that may follow the log
+pub record IsDecided (w : View) (bytes : List ℕ) (now : ℕ) (d : Decided) : Type 0 where
+  pub bad : (b : Bad) → first_fault_ingress bytes ≡ Some b → d ≡ decisions.Refuse (outcome.Bad b)
+  pub read : (m : Ingress) → ReadsIngress bytes m → d ≡ decided w now m
+  pub admits : (actions : ℕ) → Admits w actions now d
+
+-- the same on an action, where the log has as many as the module at its end counts
+pub record IsDecidedAction (w : View) (t : Module) (now : ℕ) (d : Decided) : Type 0 where
+  pub is : d ≡ decided_action w t.counts.actions now
+  pub admits : Admits w t.counts.actions now d
+
+-- what is decided has its room
+abbrev pub HasRoomFor : Decided → Values → Kept → Type 0
+HasRoomFor (decisions.Append e) v k = HasRoom v k e
+HasRoomFor _ v k = ⊤
+
+-- a member with this module at its log's end decides so on a client's bytes
+pub record Decides (v : Values) (k : Kept) (t : Module) (bytes : List ℕ) (now : ℕ) (d : Decided) : Type 0 where
+  pub view : View
+  pub is : IsView view v k.log t
+  pub by : IsDecided view bytes now d
+  pub room : HasRoomFor d v k
+
+-- and so on an action
+pub record DecidesAction (v : Values) (k : Kept) (t : Module) (now : ℕ) (d : Decided) : Type 0 where
+  pub view : View
+  pub is : IsView view v k.log t
+  pub by : IsDecidedAction view t now d
+  pub room : HasRoomFor d v k
+
+-- ---- and what is done then
+
+-- what the module applied and has ahead stays, and what it knows of the reign
+pub record IsCalm (a b : ModuleHeld) : Type 0 where
+  pub state : b.state ≡ a.state
+  pub consumed : b.consumed ≡ a.consumed
+  pub entries : b.ahead.entries ≡ a.ahead.entries
+  pub events : b.ahead.events ≡ a.ahead.events
+  pub alive : b.alive ≡ a.alive
+  pub since : b.since ≡ a.since
+
+-- all that stays but for the keep-alives
+pub record IsHeard (a b : ModuleHeld) : Type 0 where
+  pub state : b.state ≡ a.state
+  pub consumed : b.consumed ≡ a.consumed
+  pub entries : b.ahead.entries ≡ a.ahead.entries
+  pub events : b.ahead.events ≡ a.ahead.events
+  pub since : b.since ≡ a.since
+
+-- all that stays, but for one more event ahead
+pub record HasMore (e : Event) (a b : ModuleHeld) : Type 0 where
+  pub state : b.state ≡ a.state
+  pub consumed : b.consumed ≡ a.consumed
+  pub entries : b.ahead.entries ≡ a.ahead.entries ++ entry_of e ∷ []
+  pub events : b.ahead.events ≡ a.ahead.events ++ e ∷ []
+  pub alive : b.alive ≡ a.alive
+  pub since : b.since ≡ a.since
+
+-- what was decided is done, with this outcome
+abbrev pub IsDone : Decided → Outcome → Kept → Kept → ModuleHeld → ModuleHeld → Type 0
+IsDone (decisions.Refuse refusal) o a b m n = (o ≡ refusal) × (b ≡ a) × IsCalm m n
+IsDone (decisions.Alive session) o a b m n = (o ≡ outcome.Alive) × (b ≡ a) × IsHeard m n
+IsDone (decisions.Append e) o a b m n = (o ≡ outcome.Accepted (length a.log)) × IsAppended (length a.log) e a b × HasMore e m n
+
+-- a client's bytes were taken, with this outcome
+pub record TookClient (v : Values) (bytes : List ℕ) (now : ℕ) (o : Outcome) (a b : Kept) (m n : ModuleHeld) : Type 0 where
+  pub view : View
+  pub decision : Decided
+  pub is : IsView view v a.log (at_end m)
+  pub by : IsDecided view bytes now decision
+  pub done : IsDone decision o a b m n
+
+-- an action was taken, with this outcome
+pub record TookAction (v : Values) (now : ℕ) (o : Outcome) (a b : Kept) (m n : ModuleHeld) : Type 0 where
+  pub view : View
+  pub decision : Decided
+  pub is : IsView view v a.log (at_end m)
+  pub by : IsDecidedAction view (at_end m) now decision
+  pub done : IsDone decision o a b m n

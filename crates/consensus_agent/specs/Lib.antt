@@ -5,3 +5,5 @@ pub mod Phases
 pub mod Starts
 pub mod Sound
 pub mod Accepted
+pub mod Faults
+pub mod Copies

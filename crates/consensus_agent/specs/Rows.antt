@@ -1,20 +1,20 @@
 -- What a row makes of a member.
-use Rattle.std.specs.Prelude.{◌≡◌, ◌⊎◌, ℕ, List, ◌++◌, take, All}
+use Rattle.std.specs.Prelude.{◌≡◌, ◌⊎◌, ℕ, ℤ, List, ◌++◌, take}
 use Rattle.cl_base.specs.declared.entry.Entry.{Entry}
 use Rattle.entry_log.specs.Log.{Log}
 use Rattle.entry_log.specs.Shape.{Shape, shape_of}
 use Rattle.node_state.specs.Node.{Node, raised}
 use Rattle.member_disk.specs.Kept.{Kept}
+use Rattle.module_state.specs.Due.{due}
+use Rattle.member_module.specs.Held.{Held as ModuleHeld, at_end}
 use Rattle.consensus_core.specs.declared.change.Change.{Change}
 use Rattle.consensus_core.specs.declared.change.Change.TheVariants as changes
 use Rattle.consensus_core.specs.declared.row.Row.{Row}
 use Rattle.consensus_core.specs.declared.values.Values.{Values}
 use Rattle.consensus_core.specs.Fit.{Held, held_by}
 use Rattle.consensus_core.specs.Whole.{packets_sent, wanted}
-use Rattle.consensus_core.specs.Reign.{does_duty}
 use Rattle.sbe_consensus.specs.declared.packet.Outgoing.{Outgoing}
 use Rattle.consensus_agent.specs.Reads.{AreRead}
-use Rattle.sbe_events.specs.Spelling.{HasSpelling as IsEvent}
 use Rattle.sbe_events.specs.declared.event.Event.{Event}
 
 -- the node and the log after a change of the disk
@@ -45,14 +45,6 @@ pub record RowRan (row : Row) (a b : Kept) (v : Values) (out : List Outgoing) : 
   pub values : v ≡ row.values
   pub sent : IsSpoken (held_by row) (shape_of b.log) out
 
--- a duty's row was run, with some due events
-pub record RanDuty (now : ℕ) (old : Values) (a b : Kept) (new : Values) (out : List Outgoing) : Type 0 where
-  pub due : List Event
-  pub spelled : All IsEvent due
-  pub ran : RowRan (does_duty old (shape_of a.log) due now) a b new out
-
--- a duty's row was cut, with some due events
-pub record CutDuty (now : ℕ) (old : Values) (a b : Kept) : Type 0 where
-  pub due : List Event
-  pub spelled : All IsEvent due
-  pub cut : CutRow (does_duty old (shape_of a.log) due now).change a b
+-- what is due to a member with this module that leads this term
+abbrev pub due_to : ModuleHeld → ℤ → ℕ → List Event
+due_to m term now = due m.state (at_end m) m.ahead.events m.alive term now m.since

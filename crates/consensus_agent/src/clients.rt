@@ -1,10 +1,13 @@
 // What a member does with a client's message, and with a snapshot action.
-ghost use Rattle.std.specs.Prelude.{◌≡◌, ◌≤◌, ◌^◌, true, IsTrue, IfOk, OnOk};
+ghost use Rattle.std.specs.Prelude.{◌≡◌, ◌≤◌, ◌^◌, true, IsTrue, IfOk, OnErr, OnOk};
 ghost use Rattle.entry_log.specs.Shape.{end_of, shape_of};
 ghost use Rattle.sbe_events.specs.Spelling.{HasSpelling, spelling_of, term_of};
 ghost use Rattle.consensus_core.specs.Member.{is_ready as leads};
+ghost use Rattle.consensus_core.specs.Reign.{entry_of};
 ghost use Rattle.ingress.specs.Decisions.{IsSeen};
-ghost use Rattle.consensus_agent.specs.Accepted.{HasRoom, IsAccepted};
+ghost use Rattle.member_module.specs.Held.{at_end, latest_of};
+ghost use Rattle.consensus_agent.specs.Accepted.{Decides, DecidesAction, HasMore, HasRoom, HasRoomFor, IsAppended, IsCalm, IsDone, IsView, Leaves, TookAction, TookClient};
+ghost use Rattle.consensus_agent.specs.Rows.{IsKept};
 
 use crate::agent::Agent;
 use crate::changes::append;
@@ -28,18 +31,20 @@ fn entry_with(term: i64, bytes: Bytes) -> Entry
 
 impl<D: Disk> Agent<D> {
     /// Brings the state at the log's end up, where the member is ready to lead.
-    #[tactic(auto, using(crate::proofs::Sounding::kept_sound))]
+    #[tactic(auto, using(crate::proofs::Sounding::kept_sound, crate::proofs::Orders::calm_same, crate::proofs::Orders::calm_of, crate::proofs::Orders::calm_up, crate::proofs::Orders::up_of))]
     fn look(&mut self) -> Result<(), NoMemory>
         ensures services { self.new.services ≡ self.old.services }
-        ensures consumed { self.new.module.consumed ≡ self.old.module.consumed }
+        ensures calm { IsCalm self.old.module self.new.module }
+        ensures up { OnOk result (leads self.old.core.values.election.state ≡ true → latest_of self.new.module.latest self.new.module.state ≡ at_end self.old.module) }
         ensures core { self.new.core ≡ self.old.core }
         ensures over { self.new.over ≡ self.old.over }
         ensures disk { self.new.disk ≡ self.old.disk }
         ensures whole { self.new.is_whole ≡ self.old.is_whole }
     {
-        if self.is_ready() {
-            self.module.look_ahead()?;
+        if !self.is_ready() {
+            return Ok(());
         }
+        self.module.look_ahead()?;
         Ok(())
     }
 
@@ -48,9 +53,7 @@ impl<D: Disk> Agent<D> {
     fn view(&self) -> View<'_>
         requires { IsTrue self.now.is_whole }
         ensures seen { IsSeen result }
-        ensures ready { result.ready ≡ leads self.now.core.values.election.state }
-        ensures term { result.term ≡ self.now.core.values.election.term }
-        ensures place { result.place ≡ end_of (shape_of self.now.disk.kept.log) }
+        ensures is { IsView result self.now.core.values self.now.disk.kept.log (latest_of self.now.module.latest self.now.module.state) }
     {
         let index = self.disk.index();
         View {
@@ -95,7 +98,7 @@ impl<D: Disk> Agent<D> {
     }
 
     /// Appends an event, and gives the index of its entry. All memory of its own is taken before the change.
-    #[tactic(auto, using(crate::proofs::Sounding::kept_sound, crate::proofs::Views::may_append, crate::proofs::Views::appended_sound, crate::proofs::Views::accepted, crate::proofs::Entries::length_shape))]
+    #[tactic(auto, using(crate::proofs::Sounding::kept_sound, crate::proofs::Views::may_append, crate::proofs::Views::appended_sound, crate::proofs::Entries::length_shape))]
     fn append_one(&mut self, event: Event) -> Result<u64, AgentFault>
         requires whole { IsTrue self.old.is_whole }
         requires room { HasRoom self.old.core.values self.old.disk.kept event }
@@ -104,7 +107,10 @@ impl<D: Disk> Agent<D> {
         ensures values { self.new.core.values ≡ self.old.core.values }
         ensures over { self.new.over ≡ self.old.over }
         ensures whole { OnOk result (IsTrue self.new.is_whole) }
-        ensures accepted { IfOk result (λ i. IsAccepted i self.old.core.values.election.term self.old.disk.kept self.new.disk.kept) }
+        ensures appended { IfOk result (λ i. IsAppended i event self.old.disk.kept self.new.disk.kept) }
+        ensures more { OnOk result (HasMore event self.old.module self.new.module) }
+        ensures stays { OnErr result (IsKept self.old.disk.kept.node self.old.disk.kept.log self.new.disk.kept) }
+        ensures early { OnErr result (IsTrue self.new.is_whole → self.new.disk ≡ self.old.disk) }
     {
         if !is_admissible(&event) {
             return Err(AgentFault::NoMemory);
@@ -122,8 +128,57 @@ impl<D: Disk> Agent<D> {
         Ok(index)
     }
 
-    /// Takes a client's message at `now` (ms), and gives the outcome with the answer that no entry owes.
-    #[tactic(auto, using(crate::proofs::Sounding::kept_sound, crate::proofs::Views::admitted_room))]
+    /// What is decided on a client's bytes at `now` (ms).
+    fn decided(&self, bytes: &[u8], now: u64) -> Result<Decided, NoMemory>
+        requires whole { IsTrue self.now.is_whole }
+        requires now { now ≤ 2 ^ 60 }
+        ensures { IfOk result (Decides self.now.core.values self.now.disk.kept (latest_of self.now.module.latest self.now.module.state) bytes.now now) }
+    {
+        let decided = decide(self.alloc, &self.view(), bytes, now)?;
+        Ok(decided)
+    }
+
+    /// What is decided on an action at `now` (ms).
+    fn decided_action(&self, now: u64) -> Decided
+        requires whole { IsTrue self.now.is_whole }
+        requires now { now ≤ 2 ^ 60 }
+        ensures { DecidesAction self.now.core.values self.now.disk.kept (latest_of self.now.module.latest self.now.module.state) now result }
+    {
+        let actions = self.module.latest().actions();
+        decide_action(&self.view(), actions, now)
+    }
+
+    /// Does what was decided, and gives the outcome.
+    #[tactic(auto, using(crate::proofs::Sounding::kept_sound, crate::proofs::Orders::done_refuse, crate::proofs::Orders::done_alive, crate::proofs::Orders::done_append, crate::proofs::Orders::room_for))]
+    fn carry_out(&mut self, decided: Decided, now: u64) -> Result<Outcome, AgentFault>
+        requires whole { IsTrue self.old.is_whole }
+        requires room { HasRoomFor decided self.old.core.values self.old.disk.kept }
+        ensures services { self.new.services ≡ self.old.services }
+        ensures consumed { self.new.module.consumed ≡ self.old.module.consumed }
+        ensures values { self.new.core.values ≡ self.old.core.values }
+        ensures over { self.new.over ≡ self.old.over }
+        ensures whole { OnOk result (IsTrue self.new.is_whole) }
+        ensures done { IfOk result (λ o. IsDone decided o self.old.disk.kept self.new.disk.kept self.old.module self.new.module) }
+        ensures stays { OnErr result (IsKept self.old.disk.kept.node self.old.disk.kept.log self.new.disk.kept) }
+        ensures early { OnErr result (IsTrue self.new.is_whole → self.new.disk ≡ self.old.disk) }
+    {
+        match decided {
+            Decided::Refuse(outcome) => Ok(outcome),
+            Decided::Alive(session) => {
+                self.module.keep_alive(session, now)?;
+                Ok(Outcome::Alive)
+            }
+            Decided::Append(event) => {
+                let index = self.append_one(event)?;
+                Ok(Outcome::Accepted { index })
+            }
+        }
+    }
+
+    /// Takes a client's message at `now` (ms, at most 2^60), and gives the outcome, which is the first row of the table of
+    /// outcomes that applies, with the answer that no entry owes. Accepted is where the entry is in the log on the disk, at
+    /// that index. All memory is taken before the disk is changed: after an error the disk is as it was, or a call of it
+    /// failed and the member is only given up.
     pub fn client(&mut self, bytes: &[u8], now: u64) -> Result<(Outcome, Option<Sent>), AgentFault>
         requires { now ≤ 2 ^ 60 }
         ensures services { self.new.services ≡ self.old.services }
@@ -131,29 +186,25 @@ impl<D: Disk> Agent<D> {
         ensures values { self.new.core.values ≡ self.old.core.values }
         ensures over { self.new.over ≡ self.old.over }
         ensures whole { OnOk result (IsTrue self.new.is_whole) }
+        ensures took { IfOk result (λ r. TookClient self.old.core.values bytes.now now r.0 self.old.disk.kept self.new.disk.kept self.old.module self.new.module) }
+        ensures leaves { IfOk result (λ r. Leaves r.0 self.old.core.values.election.term self.old.disk.kept self.new.disk.kept) }
+        ensures stays { OnErr result (IsKept self.old.disk.kept.node self.old.disk.kept.log self.new.disk.kept) }
+        ensures early { OnErr result (IsTrue self.new.is_whole → self.new.disk ≡ self.old.disk) }
     {
         if !self.is_whole {
             return Err(AgentFault::NoMemory);
         }
         self.look()?;
-        match decide(self.alloc, &self.view(), bytes, now)? {
-            Decided::Refuse(outcome) => {
-                let sent = self.answer(bytes, &outcome)?;
-                Ok((outcome, sent))
-            }
-            Decided::Alive(session) => {
-                self.module.keep_alive(session, now)?;
-                Ok((Outcome::Alive, None))
-            }
-            Decided::Append(event) => {
-                let index = self.append_one(event)?;
-                Ok((Outcome::Accepted { index }, None))
-            }
-        }
+        let decided = self.decided(bytes, now)?;
+        let sent = match &decided {
+            Decided::Refuse(outcome) => self.answer(bytes, outcome)?,
+            Decided::Alive(_) | Decided::Append(_) => None,
+        };
+        let outcome = self.carry_out(decided, now)?;
+        Ok((outcome, sent))
     }
 
-    /// Takes a snapshot action at `now` (ms).
-    #[tactic(auto, using(crate::proofs::Views::admitted_room))]
+    /// Takes a snapshot action at `now` (ms, at most 2^60), and gives the outcome, as `client` does.
     pub fn action(&mut self, now: u64) -> Result<Outcome, AgentFault>
         requires { now ≤ 2 ^ 60 }
         ensures services { self.new.services ≡ self.old.services }
@@ -161,19 +212,16 @@ impl<D: Disk> Agent<D> {
         ensures values { self.new.core.values ≡ self.old.core.values }
         ensures over { self.new.over ≡ self.old.over }
         ensures whole { OnOk result (IsTrue self.new.is_whole) }
+        ensures took { IfOk result (λ o. TookAction self.old.core.values now o self.old.disk.kept self.new.disk.kept self.old.module self.new.module) }
+        ensures leaves { IfOk result (λ o. Leaves o self.old.core.values.election.term self.old.disk.kept self.new.disk.kept) }
+        ensures stays { OnErr result (IsKept self.old.disk.kept.node self.old.disk.kept.log self.new.disk.kept) }
+        ensures early { OnErr result (IsTrue self.new.is_whole → self.new.disk ≡ self.old.disk) }
     {
         if !self.is_whole {
             return Err(AgentFault::NoMemory);
         }
         self.look()?;
-        let actions = self.module.latest().actions();
-        match decide_action(&self.view(), actions, now) {
-            Decided::Refuse(outcome) => Ok(outcome),
-            Decided::Alive(_) => Ok(Outcome::Alive),
-            Decided::Append(event) => {
-                let index = self.append_one(event)?;
-                Ok(Outcome::Accepted { index })
-            }
-        }
+        let decided = self.decided_action(now);
+        self.carry_out(decided, now)
     }
 }

@@ -1,4 +1,6 @@
 // Why a call of a member was not done.
+ghost use Rattle.std.specs.Prelude.{◌≡◌};
+
 use cl_base::{MemberFault, NoMemory};
 
 /// Why a call of a member was not done.
@@ -13,12 +15,20 @@ pub enum AgentFault {
 }
 
 impl From<NoMemory> for AgentFault {
+    ghost use Rattle.consensus_agent.specs.declared.fault.AgentFault.TheVariants as fault;
+
+    ghost from_gives = { λ _ e. e ≡ fault.NoMemory };
+
     fn from(_: NoMemory) -> AgentFault {
         AgentFault::NoMemory
     }
 }
 
 impl From<MemberFault> for AgentFault {
+    ghost use Rattle.consensus_agent.specs.Faults.{answered};
+
+    ghost from_gives = { λ fault e. e ≡ answered fault };
+
     fn from(fault: MemberFault) -> AgentFault {
         match fault {
             MemberFault::Device => AgentFault::Device,

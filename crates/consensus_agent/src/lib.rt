@@ -4,6 +4,7 @@
 mod agent;
 mod changes;
 mod clients;
+mod copies;
 mod ending;
 mod fault;
 mod guard;

@@ -11,7 +11,7 @@ ghost use Rattle.consensus_core.specs.Reign.{does_duty};
 ghost use Rattle.consensus_core.specs.Sendable.{receives};
 ghost use Rattle.consensus_core.specs.Member.{is_ready as leads};
 ghost use Rattle.consensus_core.specs.Standing.{CanFollow, Standing};
-ghost use Rattle.consensus_agent.specs.Rows.{CutDuty, CutRow, IsSpoken, Made, RanDuty, RowRan};
+ghost use Rattle.consensus_agent.specs.Rows.{CutRow, IsSpoken, Made, RowRan, due_to};
 ghost use Rattle.consensus_agent.specs.Delivered.{OnBad, RanPacket, TellsBad};
 ghost use Rattle.consensus_agent.specs.Sound.{CanChange, CanRun, HasAhead, ends_phase, is_cut};
 
@@ -254,6 +254,7 @@ impl<D: Disk> Agent<D> {
         ensures disk { self.new.disk ≡ self.old.disk }
         ensures services { self.new.services ≡ self.old.services }
         ensures consumed { self.new.module.consumed ≡ self.old.module.consumed }
+        ensures due { IfOk result (λ es. leads self.old.core.values.election.state ≡ true → es ≡ due_to self.old.module self.old.core.values.election.term now) }
         ensures spelled { IfOk result (λ es. All IsEvent es) }
         ensures term { IfOk result (λ es. All (λ e. term_of e ≡ self.old.core.values.election.term) es) }
         ensures over { self.new.over ≡ self.old.over }
@@ -288,11 +289,13 @@ impl<D: Disk> Agent<D> {
         self.finish(change, was_ready, now)
     }
 
-    /// The duty of its state, at `now` (ms, at most 2^60).
+    /// The duty of its state, at `now` (ms, at most 2^60), with what is due where it is ready to lead: its row's change, and
+    /// then its packets.
+    #[tactic(auto, using(crate::proofs::Due::cut_none))]
     pub fn duty(&mut self, now: u64) -> Result<List<Outgoing>, AgentFault>
         requires { now ≤ 2 ^ 60 }
-        ensures row { IfOk result (RanDuty now self.old.core.values self.old.disk.kept self.new.disk.kept self.new.core.values) }
-        ensures cut { OnErr result (CutDuty now self.old.core.values self.old.disk.kept self.new.disk.kept) }
+        ensures row { IfOk result (RowRan (does_duty self.old.core.values (shape_of self.old.disk.kept.log) (due_to self.old.module self.old.core.values.election.term now) now) self.old.disk.kept self.new.disk.kept self.new.core.values) }
+        ensures cut { OnErr result (CutRow (does_duty self.old.core.values (shape_of self.old.disk.kept.log) (due_to self.old.module self.old.core.values.election.term now) now).change self.old.disk.kept self.new.disk.kept) }
         ensures services { self.new.services ≡ self.old.services }
         ensures consumed { self.new.module.consumed ≡ self.old.module.consumed }
         ensures rises { OnOk result (self.old.core.values.rest.commit ≤ self.new.core.values.rest.commit) }

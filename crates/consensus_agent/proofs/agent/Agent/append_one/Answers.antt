@@ -1,10 +1,12 @@
-use Rattle.std.proofs.Common.{◌≡◌, ◌++◌, ◌∷◌, [], true, ap, sym, subst, ◌∙◌, rules}
-use Rattle.entry_log.specs.Shape.{shape_of}
+use Rattle.std.proofs.Common.{◌≡◌, ◌++◌, ◌∷◌, [], true, length, ap, sym, subst, ◌∙◌, rules}
+use Rattle.entry_log.specs.Shape.{Shape, shape_of}
 use Rattle.member_module.specs.Held.{Held as ModuleHeld}
 use Rattle.consensus_core.specs.Standing.{CanFollow}
 use Rattle.consensus_agent.specs.Rows.{IsKept}
 use Rattle.consensus_agent.proofs.Running.{values_in}
-use Rattle.consensus_agent.proofs.Views.{may_append, appended_sound}
+use Rattle.consensus_agent.proofs.Entries.{length_shape}
+use Rattle.consensus_agent.proofs.Orders.{has_more}
+use Rattle.consensus_agent.proofs.Views.{may_append, appended, appended_sound, entry_is}
 use Rattle.consensus_agent.proofs.agent.Agent.append_one.Goals as goal
 
 pub append-requires-clause-follows : goal.append-requires-clause-follows
@@ -32,3 +34,24 @@ invariant_of-self-2 g c =
           (ap (λ (m : ModuleHeld). m.consumed) c.put.ensures.rest ∙ ap (λ (m : ModuleHeld). m.consumed) c.in_ok-expect.ensures.ok)
           (c.put.ensures.entries ∙ ap (λ es. es ++ c.entry_with-entry.result ∷ []) c.expect.ensures.entries);
     }
+
+pub returns-clause-appended : goal.returns-clause-appended
+returns-clause-appended g c =
+    let term : c.entry_with-entry.result.term ≡ c.args.self.now.core.values.election.term = search rules in
+    appended c.entries-index.result c.args.self.now.core.values c.args.self.now.disk.kept c.append.new.disk.kept c.args.event c.entry_with-entry.result c.requires.room
+    (c.entries-index.ensures.count ∙ ap (λ (xs : Shape). length xs) c.index.ensures.index ∙ length_shape c.args.self.now.disk.kept.log)
+    term
+    (c.entry_with-entry.ensures.bytes ∙ c.in_ok-bytes.ensures.spelled)
+    (subst (λ es. IsKept c.args.self.now.disk.kept.node (c.args.self.now.disk.kept.log ++ es) c.append.new.disk.kept) c.from_ref.ensures.value c.in_ok-append.ensures.made)
+
+pub returns-clause-more : goal.returns-clause-more
+returns-clause-more g c =
+    let term : c.entry_with-entry.result.term ≡ c.args.self.now.core.values.election.term = search rules in
+    has_more c.args.event c.entry_with-entry.result c.args.self.now.«module» c.expect.new.self c.put.new.self
+    (entry_is c.args.event c.entry_with-entry.result (term ∙ sym c.requires.room.term) (c.entry_with-entry.ensures.bytes ∙ c.in_ok-bytes.ensures.spelled))
+    c.in_ok-expect.ensures.ok
+    c.expect.ensures.entries
+    c.expect.ensures.events
+    c.put.ensures.rest
+    c.put.ensures.entries
+    c.put.ensures.events

@@ -1,12 +1,27 @@
-use Rattle.std.proofs.Common.{◌≡◌, subst}
-use Rattle.ingress.specs.Decisions.{Admits}
-use Rattle.consensus_agent.proofs.Views.{admitted_room}
+use Rattle.std.proofs.Common.{◌≡◌, ap}
+use Rattle.member_module.specs.Held.{latest_of}
+use Rattle.consensus_agent.proofs.Orders.{took_client}
+use Rattle.consensus_agent.proofs.Refusals.{client_leaves}
+use Rattle.consensus_agent.proofs.Running.{values_in, kept_in}
 use Rattle.consensus_agent.proofs.agent.Agent.client.Goals as goal
 
-pub append_one-requires-clause-room : goal.append_one-requires-clause-room
-append_one-requires-clause-room g c =
-    admitted_room c.look.new.self.core.values c.look.new.self.disk.kept c.view.result 0 c.args.now c.in-Append.event
-    (subst (λ d. Admits c.view.result 0 c.args.now d) c.in-Append.is (c.in_ok-outcome.ensures.admits 0))
-    c.view.ensures.ready
-    c.view.ensures.term
-    c.view.ensures.place
+pub returns-clause-took : goal.returns-clause-took
+returns-clause-took g c =
+    took_client c.args.self.now.core.values c.look.new.self.core.values c.args.bytes.now c.args.now c.in_ok-decided.decided c.in_ok-outcome.outcome c.args.self.now.disk.kept c.look.new.self.disk.kept c.carry_out.new.self.disk.kept c.args.self.now.«module» c.look.new.self.«module» c.carry_out.new.self.«module» (latest_of c.look.new.self.«module».latest c.look.new.self.«module».state)
+    (ap values_in c.look.ensures.core)
+    (ap kept_in c.look.ensures.disk)
+    c.look.ensures.calm
+    c.in_ok-look.ensures.up
+    c.in_ok-decided.ensures
+    c.in_ok-outcome.ensures.done
+
+pub returns-clause-leaves : goal.returns-clause-leaves
+returns-clause-leaves g c =
+    client_leaves c.args.self.now.core.values c.args.bytes.now c.args.now c.in_ok-outcome.outcome c.args.self.now.disk.kept c.carry_out.new.self.disk.kept c.args.self.now.«module» c.carry_out.new.self.«module»
+    (took_client c.args.self.now.core.values c.look.new.self.core.values c.args.bytes.now c.args.now c.in_ok-decided.decided c.in_ok-outcome.outcome c.args.self.now.disk.kept c.look.new.self.disk.kept c.carry_out.new.self.disk.kept c.args.self.now.«module» c.look.new.self.«module» c.carry_out.new.self.«module» (latest_of c.look.new.self.«module».latest c.look.new.self.«module».state)
+    (ap values_in c.look.ensures.core)
+    (ap kept_in c.look.ensures.disk)
+    c.look.ensures.calm
+    c.in_ok-look.ensures.up
+    c.in_ok-decided.ensures
+    c.in_ok-outcome.ensures.done)
