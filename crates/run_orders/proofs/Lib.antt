@@ -2,3 +2,4 @@ pub mod Leading
 pub mod Ordered
 pub mod Standing
 pub mod Resting
+pub mod Opening

@@ -5,6 +5,7 @@ use Rattle.cl_base.specs.declared.disk.Choice.{Choice}
 use Rattle.cl_base.specs.declared.entry.Entry.{Entry}
 use Rattle.wire_prims.specs.Fields.{signed32}
 use Rattle.entry_log.specs.Log.{Log}
+use Rattle.commit_counter.specs.Ends.{Fed}
 use Rattle.commit_counter.specs.declared.role.Role.{Role}
 use Rattle.commit_counter.specs.declared.role.Role.TheVariants.{Follower, Leader}
 use Rattle.consensus_core.specs.Fit.{Held as CoreHeld}
@@ -21,7 +22,7 @@ use Rattle.service_api.specs.Service.{state_of}
 use Rattle.service_container.specs.Held.{Held as ContainerHeld}
 use Rattle.service_container.specs.Records.{records_from}
 use Rattle.service_phases.specs.Pairs.{Each2}
-use Rattle.service_phases.specs.Phases.{Lending}
+use Rattle.service_phases.specs.Phases.{Lending, forgetting}
 use Rattle.service_runs.specs.Hosts.{Output, longer, no_run}
 use Rattle.run_world.specs.Seat.{Seat, Phase, Rests, Goes}
 use Rattle.run_world.specs.RunWorld.{RunWorld, all_sent}
@@ -155,6 +156,10 @@ disk_of (Down disk) = disk
 abbrev pub with_disk : {D : Type 0} → D → HomeSeen D → HomeSeen D
 with_disk d (Up u going) = Up (record u { disk = record { kept = u.disk.kept; whole = u.disk.whole; disk = d } }) going
 with_disk d (Down disk) = Down d
+
+-- a member whose phase begins with these feeds: its containers are lent with their outboxes emptied
+abbrev pub with_phase : {D : Type 0} → Role → List Fed → UpSeen D → UpSeen D
+with_phase role feeds u = record { core = u.core; disk = u.disk; module_held = u.module_held; lending = record { kept = []; lent = map forgetting u.lending.kept; begun = feeds }; role = role; base = u.base; over = false }
 
 module _ {D : Type 0} (state : D → DiskState) (kinds : List Kind) where
   -- a member that runs

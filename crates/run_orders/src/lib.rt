@@ -1,21 +1,24 @@
 //! The orders of a scenario as acts of the world of a run; and that what is promised of every list of acts holds of every run of orders.
 #![tactic(auto)]
 
-ghost use Rattle.std.specs.Prelude.{◌≡◌, ◌≤◌, ℕ, Bool, List, Some, length};
+ghost use Rattle.std.specs.Prelude.{◌≡◌, ◌≤◌, ℕ, Bool, true, false, List, Some, length};
 ghost use Rattle.cl_base.specs.Disk.{CrashLeaves, IsImage};
 ghost use Rattle.cl_base.specs.declared.disk.Choice.{Choice};
 ghost use Rattle.cl_base.specs.declared.disk.Choice.TheVariants.{Keep};
+ghost use Rattle.commit_counter.specs.Ends.{Fed};
+ghost use Rattle.commit_counter.specs.declared.role.Role.{Role};
 ghost use Rattle.consensus_core.specs.Member.{Sent as Packet};
 ghost use Rattle.member_module.specs.Held.{Held as ModuleHeld, at_end};
 ghost use Rattle.module_state.specs.Due.{due};
 ghost use Rattle.service_api.specs.declared.shipped.Kind.{Kind};
+ghost use Rattle.service_runs.specs.Hosts.{role_of};
 ghost use Rattle.scenario.specs.declared.order.Order.{Order};
 ghost use Rattle.run_world.specs.Headline.{Headline};
 ghost use Rattle.run_world.specs.RunWorld.{RunWorld, committed, due_at, first_world, put, view_at};
-ghost use Rattle.run_world.specs.Seat.{Seat, fused, rested};
+ghost use Rattle.run_world.specs.Seat.{Seat, fused, opened, rested};
 ghost use Rattle.run_orders.specs.Orders.{Course, GotTo, Ran, Step};
 ghost use Rattle.run_orders.specs.Phases.{Leads};
-ghost use Rattle.run_orders.specs.Stands.{HasModule, IsDown, IsSeat, IsUp, RunSeen, SeatSeen, Stands, UpSeen, disk_of, seen_put, with_disk};
+ghost use Rattle.run_orders.specs.Stands.{HasModule, IsDown, IsSeat, IsUp, RunSeen, SeatSeen, Stands, UpSeen, disk_of, seen_put, term_led, with_disk, with_phase};
 
 use cl_base::Disk;
 
@@ -53,4 +56,9 @@ pub fn a_fuse_is_set<D: Disk>()
 pub fn a_stop_rests<D: Disk>()
     ensures { (kinds : List Kind) (u : UpSeen D) (going : Bool) (s : Seat) (own : ℕ) (d : D) → ((f : ℕ) → IsImage ((D.state u.disk.disk).files f) ((D.state u.disk.disk).files f).reads) → CrashLeaves Keep (D.state u.disk.disk) (D.state d)
         → IsUp D.state kinds u going s → IsDown D.state kinds d (rested own s) }
+{}
+
+/// What a driver has of a member stands to a world still once a phase of it begins on both sides.
+pub fn a_phase_begins<D: Disk>()
+    ensures { (kinds : List Kind) (u : UpSeen D) (s : Seat) (role : Role) (feeds : List Fed) → term_led role ≡ role_of s.member → IsUp D.state kinds u false s → IsUp D.state kinds (with_phase role feeds u) true (opened s) }
 {}
