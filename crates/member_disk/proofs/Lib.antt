@@ -10,6 +10,10 @@ pub mod Preludes
 pub mod Files
 pub mod Lists
 pub mod LogFiles
+pub mod TermParts
 pub mod Strikes
 pub mod Sparing
 pub mod CutWells
+pub mod AppendParts
+pub mod TermRuns
+pub mod AppendMade

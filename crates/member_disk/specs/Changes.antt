@@ -1,5 +1,5 @@
 -- What the changes make of what is kept.
-use Rattle.std.specs.Prelude.{◌≡◌, ◌⊎◌, ℕ, ◌<◌, ◌≤◌, ◌^◌, ℤ, pos, negsuc, ◌≤ℤ◌, IsTrue, List, [], ◌∷◌, ◌++◌, slice_get, slice_index_or, length, Some, Result, IsErrOf, IfErr, if◌then◌else◌, ⊤}
+use Rattle.std.specs.Prelude.{◌≡◌, ◌⊎◌, ℕ, ◌<◌, ◌≤◌, ◌==◌, ◌&&◌, ◌||◌, ◌^◌, ℤ, pos, negsuc, ◌≤ℤ◌, Bool, false, IsTrue, List, [], ◌∷◌, ◌++◌, slice_get, slice_index_or, length, Some, Result, IsErrOf, IfErr, if◌then◌else◌, ⊤}
 use Rattle.cl_base.specs.Counts.{Rose}
 use Rattle.cl_base.specs.declared.fault.MemberFault.{MemberFault}
 use Rattle.cl_base.specs.declared.fault.MemberFault.TheVariants as fault
@@ -41,6 +41,11 @@ term_at t = record { term = t.term; base = t.base; stamp = t.stamp }
 
 abbrev pub HasTerm : List RecEntry → NewTerm → Type 0
 HasTerm entries t = (k : ℕ) × (slice_get (terms_of entries) k ≡ Some (term_at t))
+
+-- the same as a test: one of these terms is this one
+abbrev pub has_term : List TermAt → TermAt → Bool
+has_term [] t = false
+has_term (u ∷ us) t = (int_eq u.term t.term && (u.base == t.base) && int_eq u.stamp t.stamp) || has_term us t
 
 -- each of these does
 abbrev pub HaveTerms : List RecEntry → List NewTerm → Type 0

@@ -3,14 +3,20 @@ use Rattle.std.specs.Prelude.{ℕ, length, take, ◌+◌, ◌-◌, ◌==◌, ◌
 use Rattle.cl_base.specs.Disk.{DiskState, LeavesOnly, left_by}
 use Rattle.cl_base.specs.Every.{takes}
 use Rattle.cl_base.specs.Fuse.{FuseEnds}
+use Rattle.cl_base.specs.Gated.{is_open_byte}
 use Rattle.cl_base.specs.Runs.{EachImage}
 use Rattle.cl_base.specs.declared.disk.Choice.{Choice}
 use Rattle.cl_base.specs.declared.fault.MemberFault.{MemberFault}
 use Rattle.cl_base.specs.declared.fault.MemberFault.TheVariants.{Device}
 use Rattle.node_state.specs.Node.{names_slot, raised}
 use Rattle.member_disk.specs.declared.durable.SnapshotHead.{SnapshotHead}
-use Rattle.member_disk.specs.Changes.{entry_for}
+use Rattle.member_disk.specs.Changes.{entry_for, has_term, term_at}
 use Rattle.recording_log.specs.Steps.{is_open}
+use Rattle.recording_log.specs.Valid.{terms_of, term_entry}
+use Rattle.entry_log.specs.Log.{Log, place}
+use Rattle.log_segment.specs.declared.kept.NewTerm.{NewTerm}
+use Rattle.log_segment.specs.Held.{new_term_of}
+use Rattle.log_segment.specs.Spelled.{append_calls}
 use Rattle.log_segment.specs.Cuts.{is_shut_byte}
 use Rattle.member_disk.specs.Kept.{Kept, Stands, Means, EachStands, StandsAmong}
 
@@ -64,6 +70,28 @@ entry_part kept head = record { calls = 5; last = takes is_open; makes = record 
 -- a snapshot: its file in three calls, and then its entry
 abbrev pub put_part : Kept → SnapshotHead → Part
 put_part kept head = record { calls = 8; last = takes is_open; makes = record kept { entries = kept.entries ++ entry_for kept head ∷ [] } }
+
+-- the addition of a TERM entry
+abbrev pub term_part : Kept → NewTerm → Part
+term_part kept t = record { calls = 5; last = takes is_open; makes = record kept { entries = kept.entries ++ term_entry t.term t.base t.stamp ∷ [] } }
+
+-- what a term that begins in an entry wants added: its TERM entry, unless it is there
+abbrev pub wanted_parts : Kept → Option NewTerm → List Part
+wanted_parts kept None = []
+wanted_parts kept (Some t) = if has_term (terms_of kept.entries) (term_at t) then [] else term_part kept t ∷ []
+
+-- what the entries of a batch want added, each after the one before
+abbrev pub term_parts : Kept → Log → List Part
+term_parts kept [] = []
+term_parts kept (e ∷ es) = wanted_parts kept (new_term_of 0 e.bytes) ++ term_parts (made (wanted_parts kept (new_term_of 0 e.bytes)) kept) es
+
+-- a batch behind the log
+abbrev pub batch_part : Kept → Log → Part
+batch_part kept batch = record { calls = append_calls (place kept.log) batch; last = takes is_open_byte; makes = record kept { log = kept.log ++ batch } }
+
+-- an append: the TERM entries that it wants, and then the batch
+abbrev pub append_parts : Kept → Log → List Part
+append_parts kept batch = term_parts kept batch ++ batch_part (made (term_parts kept batch) kept) batch ∷ []
 
 -- the first entries of the log are kept
 abbrev pub cut_part : Kept → ℕ → Part

@@ -1,5 +1,5 @@
 // The changes of what a member keeps.
-ghost use Rattle.std.specs.Prelude.{◌≡◌, ◌≢◌, ◌+◌, ◌<◌, ◌≤◌, ◌^◌, ◌++◌, ◌∷◌, [], ◌↔◌, ℕ, pos, ◌<ℤ◌, ◌≤ℤ◌, All, IsTrue, IsFalse, IfOk, IfErr, IfSome, OnOk, OnErr, Err, length, take};
+ghost use Rattle.std.specs.Prelude.{◌≡◌, ◌≢◌, ◌+◌, ◌<◌, ◌≤◌, ◌^◌, ◌++◌, ◌∷◌, [], ◌↔◌, ℕ, pos, ◌<ℤ◌, ◌≤ℤ◌, All, IsTrue, IsFalse, IfOk, IfErr, IfSome, OnOk, OnErr, Err, Some, length, take};
 ghost use Rattle.cl_base.specs.Faults.{HasDeviceCause};
 ghost use Rattle.cl_base.specs.Disk.{OthersStay, settled_file};
 ghost use Rattle.entry_log.specs.Log.{RisesFrom, last, place};
@@ -10,7 +10,7 @@ ghost use Rattle.snapshot_store.specs.Snapshots.{spelled};
 ghost use Rattle.log_segment.specs.Batch.{IsBatchAt};
 ghost use Rattle.log_segment.specs.Held.{IsEventEntry, new_term_of, put_term, new_terms};
 ghost use Rattle.member_disk.specs.Kept.{ReadsAs, EachStands};
-ghost use Rattle.member_disk.specs.Parts.{IsMade, raise_part, entry_part, put_part, cut_parts};
+ghost use Rattle.member_disk.specs.Parts.{IsMade, made, raise_part, entry_part, put_part, wanted_parts, term_parts, append_parts, cut_parts};
 ghost use Rattle.member_disk.specs.Struck.{IsStruck, with_struck};
 ghost use Rattle.member_disk.specs.CutWell.{Spares, IsCutWell, no_file, file_of};
 ghost use Rattle.member_disk.specs.Changes.{IsNewRanged, HasTerm, HaveTerms, HasMoreTerms, IsAppended, base_of, entry_for, IsHead, IsPut, HasAppendCause};
@@ -83,6 +83,12 @@ impl Durable {
         ensures tells { D.tells disk.new ≡ D.tells disk.old }
         ensures honest { D.is_honest disk.new ≡ D.is_honest disk.old }
         ensures stands { IsTrue (D.tells disk.old) → OnOk result (ReadsAs self.new (D.state disk.new).files) }
+        ensures spares { IsTrue (D.is_honest disk.old) → EachStands self.old (D.state disk.old).files → Spares D.state D.moment D.left_since no_file disk.old disk.new }
+        ensures cut_well { IsTrue (D.is_honest disk.old) → EachStands self.old (D.state disk.old).files → HaveTerms self.old.entries (new_terms 0 self.old.log)
+            → IsCutWell D.state D.moment D.left_since no_file self.old (record self.old { log = self.old.log ++ entries.now }) disk.old disk.new }
+        ensures makes { OnOk result (self.new ≡ made (append_parts self.old entries.now) self.old) }
+        ensures made { IsTrue (D.is_honest disk.old) → EachStands self.old (D.state disk.old).files
+            → IsMade D.state D.moment D.left_since (append_parts self.old entries.now) self.old disk.old disk.new result }
     {
         match self.log.stage(entries) {
             Ok(batch) => match self.add_terms(disk, entries) {
@@ -103,9 +109,16 @@ impl Durable {
         ensures tells { D.tells disk.new ≡ D.tells disk.old }
         ensures honest { D.is_honest disk.new ≡ D.is_honest disk.old }
         ensures stands { IsTrue (D.tells disk.old) → OnOk result (ReadsAs self.new (D.state disk.new).files) }
+        ensures spares { IsTrue (D.is_honest disk.old) → EachStands self.old (D.state disk.old).files → Spares D.state D.moment D.left_since no_file disk.old disk.new }
+        ensures makes { OnOk result (self.new ≡ made (term_parts self.old entries.now) self.old) }
+        ensures made { IsTrue (D.is_honest disk.old) → EachStands self.old (D.state disk.old).files
+            → IsMade D.state D.moment D.left_since (term_parts self.old entries.now) self.old disk.old disk.new result }
     {
         for entry in entries {
-            self.add_term_of(disk, entry)?;
+            match self.add_term_of(disk, entry) {
+                Ok(()) => (),
+                Err(fault) => return Err(fault),
+            }
         }
         Ok(())
     }
@@ -120,6 +133,10 @@ impl Durable {
         ensures tells { D.tells disk.new ≡ D.tells disk.old }
         ensures honest { D.is_honest disk.new ≡ D.is_honest disk.old }
         ensures stands { IsTrue (D.tells disk.old) → OnOk result (ReadsAs self.new (D.state disk.new).files) }
+        ensures spares { IsTrue (D.is_honest disk.old) → EachStands self.old (D.state disk.old).files → Spares D.state D.moment D.left_since no_file disk.old disk.new }
+        ensures makes { OnOk result (self.new ≡ made (wanted_parts self.old (new_term_of 0 entry.now.bytes)) self.old) }
+        ensures made { IsTrue (D.is_honest disk.old) → EachStands self.old (D.state disk.old).files
+            → IsMade D.state D.moment D.left_since (wanted_parts self.old (new_term_of 0 entry.now.bytes)) self.old disk.old disk.new result }
     {
         match NewTerm::of(0, entry.bytes.as_slice()) {
             Some(new) => self.add_term(disk, new),
@@ -137,6 +154,10 @@ impl Durable {
         ensures tells { D.tells disk.new ≡ D.tells disk.old }
         ensures honest { D.is_honest disk.new ≡ D.is_honest disk.old }
         ensures stands { IsTrue (D.tells disk.old) → OnOk result (ReadsAs self.new (D.state disk.new).files) }
+        ensures spares { IsTrue (D.is_honest disk.old) → EachStands self.old (D.state disk.old).files → Spares D.state D.moment D.left_since no_file disk.old disk.new }
+        ensures makes { OnOk result (self.new ≡ made (wanted_parts self.old (Some new)) self.old) }
+        ensures made { IsTrue (D.is_honest disk.old) → EachStands self.old (D.state disk.old).files
+            → IsMade D.state D.moment D.left_since (wanted_parts self.old (Some new)) self.old disk.old disk.new result }
     {
         let term = TermAt {
             term: new.term,
@@ -267,6 +288,7 @@ impl Durable {
         requires stands { IsTrue (D.tells disk.old) → ReadsAs self.old (D.state disk.old).files }
         ensures found { IfOk result (λ found. IsFalse found ↔ HasNoSet self.old.services self.old.entries) }
         ensures nothing { HasNoSet self.old.services self.old.entries → self.new ≡ self.old }
+        ensures untouched { HasNoSet self.old.services self.old.entries → D.state disk.new ≡ D.state disk.old }
         ensures ok { (i : ℕ) (e : RecEntry) → IsLatest self.old.services self.old.entries i e → OnOk result (self.new ≡ record self.old { entries = struck i e self.old.entries }) }
         ensures err { OnErr result (self.new ≡ self.old) }
         ensures cause { HasDeviceCause (D.fault_count disk.old) (D.fault_count disk.new) result }

@@ -43,7 +43,7 @@ impl<D: Disk> MemberDisk<D> {
     ghost use Rattle.log_segment.specs.Looked.{IsOnly};
     ghost use Rattle.snapshot_store.specs.Snapshots.{ArePieces, spelled};
     ghost use Rattle.member_disk.specs.Kept.{Kept, ReadsAs, ReadsLike, Means, EachStands, IsSettled};
-    ghost use Rattle.member_disk.specs.Parts.{IsMade, raise_part, put_part, cut_parts, MountEnds};
+    ghost use Rattle.member_disk.specs.Parts.{IsMade, made, raise_part, put_part, append_parts, cut_parts, MountEnds};
     ghost use Rattle.member_disk.specs.Struck.{IsStruck, with_struck};
     ghost use Rattle.member_disk.specs.CutWell.{IsCutWell, no_file, file_of};
     ghost use Rattle.node_state.specs.Node.{mount_calls};
@@ -134,6 +134,13 @@ impl<D: Disk> MemberDisk<D> {
         ensures tells { D.tells self.new.disk ≡ D.tells self.old.disk }
         ensures honest { D.is_honest self.new.disk ≡ D.is_honest self.old.disk }
         ensures whole { OnOk result (IsTrue self.new.whole) }
+        ensures makes { OnOk result (self.new.kept ≡ made (append_parts self.old.kept entries.now) self.old.kept) }
+        // First the TERM entries that it wants, each a part, and then the batch.
+        ensures made { IsTrue (D.is_honest self.old.disk) → EachStands self.old.kept (D.state self.old.disk).files
+            → IsMade D.state D.moment D.left_since (append_parts self.old.kept entries.now) self.old.kept self.old.disk self.new.disk result }
+        // Whatever the answer, and whenever a crash comes, a mount finds the state before or the one after.
+        ensures cut_well { IsTrue (D.is_honest self.old.disk) → EachStands self.old.kept (D.state self.old.disk).files → HaveTerms self.old.kept.entries (new_terms 0 self.old.kept.log)
+            → IsCutWell D.state D.moment D.left_since no_file self.old.kept (record self.old.kept { log = self.old.kept.log ++ entries.now }) self.old.disk self.new.disk }
     {
         match self.durable.append(&mut self.disk, entries) {
             Ok(()) => Ok(()),
@@ -206,6 +213,7 @@ impl<D: Disk> MemberDisk<D> {
         requires whole { IsTrue self.old.whole }
         ensures found { IfOk result (λ found. IsFalse found ↔ HasNoSet self.old.kept.services self.old.kept.entries) }
         ensures nothing { HasNoSet self.old.kept.services self.old.kept.entries → self.new.kept ≡ self.old.kept }
+        ensures untouched { HasNoSet self.old.kept.services self.old.kept.entries → D.state self.new.disk ≡ D.state self.old.disk }
         ensures ok { (i : ℕ) (e : RecEntry) → IsLatest self.old.kept.services self.old.kept.entries i e → OnOk result (self.new.kept ≡ record self.old.kept { entries = struck i e self.old.kept.entries }) }
         ensures err { OnErr result (self.new.kept ≡ self.old.kept) }
         ensures cause { HasDeviceCause (D.fault_count self.old.disk) (D.fault_count self.new.disk) result }

@@ -18,6 +18,16 @@ returns-in-Ok-clause-nothing g c none =
     let there = subst (λ (h : Held g.row.D.Denot). HasNoSet h.kept.services h.kept.entries) (sym c.self.view_is) none in
     c.invalidate.ensures.nothing there ∙ ap (λ (h : Held g.row.D.Denot). h.kept) c.self.view_is
 
+pub returns-in-Ok-clause-untouched : goal.returns-in-Ok-clause-untouched
+returns-in-Ok-clause-untouched g c none =
+    let there = subst (λ (h : Held g.row.D.Denot). HasNoSet h.kept.services h.kept.entries) (sym c.self.view_is) none in
+    c.invalidate.ensures.untouched there ∙ ap (λ (h : Held g.row.D.Denot). g.D.Disk.state h.disk) c.self.view_is
+
+pub returns-in-Err-clause-untouched : goal.returns-in-Err-clause-untouched
+returns-in-Err-clause-untouched g c none =
+    let there = subst (λ (h : Held g.row.D.Denot). HasNoSet h.kept.services h.kept.entries) (sym c.self.view_is) none in
+    c.invalidate.ensures.untouched there ∙ ap (λ (h : Held g.row.D.Denot). g.D.Disk.state h.disk) c.self.view_is
+
 pub returns-in-Ok-clause-ok : goal.returns-in-Ok-clause-ok
 returns-in-Ok-clause-ok g c i e latest =
     let there = subst (λ (h : Held g.row.D.Denot). IsLatest h.kept.services h.kept.entries i e) (sym c.self.view_is) latest in

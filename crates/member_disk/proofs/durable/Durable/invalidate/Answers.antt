@@ -48,6 +48,16 @@ returns-in-Ok-clause-nothing g c none =
     let same = (c.invalidate_latest.ensures.nothing there).0 in
     ap (λ (es : List RecEntry). let k : Kept = record { node = c.self.inside.node; entries = es; log = c.self.inside.log; services = c.self.inside.services } in k) same ∙ c.self.view_is
 
+pub returns-in-Ok-clause-untouched : goal.returns-in-Ok-clause-untouched
+returns-in-Ok-clause-untouched g c none =
+    let there = subst (λ (k : Kept). HasNoSet k.services k.entries) (sym c.self.view_is) none in
+    (c.invalidate_latest.ensures.nothing there).1
+
+pub returns-in-Err-clause-untouched : goal.returns-in-Err-clause-untouched
+returns-in-Err-clause-untouched g c none =
+    let there = subst (λ (k : Kept). HasNoSet k.services k.entries) (sym c.self.view_is) none in
+    (c.invalidate_latest.ensures.nothing there).1
+
 pub returns-in-Ok-clause-stands : goal.returns-in-Ok-clause-stands
 returns-in-Ok-clause-stands g c told =
     let mine : Kept = record { node = c.self.inside.node; entries = c.self.inside.recording; log = c.self.inside.log; services = c.self.inside.services } in
