@@ -5,6 +5,7 @@ use crate::seat::{Seat, Took};
 use crate::site::Site;
 use cl_base::{Disk, List, NoMemory};
 use ingress::Outcome;
+use joined_clients::Joined;
 use run_report::Reply;
 use std::alloc::Global;
 
@@ -29,6 +30,8 @@ pub(crate) struct Cluster<D: Disk> {
     pub(crate) outside: Outside,
     /// How many connects each client has sent.
     pub(crate) connects: Vec<i64>,
+    /// The clients that joined, by rising number.
+    pub(crate) joined: Vec<Joined>,
     /// Phases go on over orders.
     pub(crate) free: bool,
     /// What was told and isn't written yet.
@@ -57,6 +60,7 @@ impl<D: Disk + Drop> Cluster<D> {
             seats,
             outside,
             connects,
+            joined: Vec::new(alloc),
             free: false,
             told: List::new(alloc),
             refused: 0,

@@ -8,6 +8,7 @@ mod clock;
 mod cluster;
 mod disks;
 mod free;
+mod joined;
 mod orders;
 mod outside;
 mod reporting;

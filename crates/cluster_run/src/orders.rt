@@ -69,7 +69,10 @@ impl<D: Disk + Drop> Cluster<D> {
             | Order::Heal { .. }
             | Order::Lose { .. }
             | Order::Replay { .. } => self.disturb(order),
-            Order::Join { .. } | Order::Offer { .. } => Ok(()),
+            Order::Join { client, .. } => self.join(*client),
+            Order::Offer { line, client, text } => {
+                self.offer(rt, *line, *client, text.as_slice())
+            }
             Order::Backup { .. } | Order::BackupOff { .. } | Order::BackupLose { .. } => Ok(()),
         }
     }
@@ -111,7 +114,11 @@ impl<D: Disk + Drop> Cluster<D> {
     }
 
     /// Tells a client's or an operator's outcome, where there is one.
-    fn tell_outcome(&mut self, line: u64, outcome: Option<Outcome>) -> Result<(), NoMemory> {
+    pub(crate) fn tell_outcome(
+        &mut self,
+        line: u64,
+        outcome: Option<Outcome>,
+    ) -> Result<(), NoMemory> {
         match outcome {
             Some(outcome) => self.tell(line, Reply::Given(outcome)),
             None => Ok(()),
