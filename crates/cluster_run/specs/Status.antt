@@ -26,7 +26,7 @@ count words n = words ++ decimal n
 
 -- what a refusal writes: one line. The others write nothing of their own.
 abbrev pub status_text : Status → List ℕ
-status_text status.Usage = codes "usage: clusterd run [--dir D] | check | make N [--dir D]\n"
+status_text status.Usage = codes "usage: clusterd run [--dir D] | check | make N [--dir D] | tool describe S DIR | tool recording-log DIR | tool verify DIR DIR\n"
 status_text (status.Refused line c) = count (codes "refused line ") line ++ codes ": " ++ cause_text c ++ codes "\n"
 status_text status.TooLong = codes "scenario longer than 1048576 bytes\n"
 status_text (status.FewDisks members disks) = count (codes "members ") members ++ count (codes ", disks ") disks ++ codes "\n"

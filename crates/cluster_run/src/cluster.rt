@@ -1,12 +1,10 @@
 // All members of a run, with what they share.
 use crate::clock::Clock;
-use crate::outside::Outside;
-use crate::seat::{Seat, Took};
-use crate::site::Site;
 use cl_base::{Disk, List, NoMemory};
 use ingress::Outcome;
 use joined_clients::Joined;
 use run_report::Reply;
+use run_seats::{Outside, Seat, Site, Took};
 use std::alloc::Global;
 
 /// How many clients a scenario may name.
@@ -91,7 +89,7 @@ impl<D: Disk + Drop> Cluster<D> {
             Took::Down => Ok(Some(Outcome::MemberDown)),
             Took::Stopped => {
                 if let Some(seat) = self.seats.get(member) {
-                    let member = seat.id.member;
+                    let member = seat.member();
                     self.told.push(Line::Stopped { member })?;
                 }
                 Ok(Some(Outcome::Device))

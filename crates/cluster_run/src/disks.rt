@@ -5,9 +5,8 @@ ghost use Rattle.cluster_run.specs.Disks.{IsFirstUsed, IsLookedAt, AreUnused};
 ghost use Rattle.cluster_run.specs.Begins.{IfCannot, IfFails};
 
 use crate::Status;
-use crate::seat::Seat;
-use crate::site::MemberId;
 use cl_base::{Disk, MemberFault, NoMemory, Trouble};
+use run_seats::{MemberId, Seat};
 use std::alloc::Global;
 use std::sync::Wait;
 use std::thread::Threads;

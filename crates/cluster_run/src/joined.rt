@@ -1,11 +1,11 @@
 // Joined clients: each connects, follows its leader, keeps its session alive and reads its stream by itself.
-use crate::calls::Asking;
 use crate::cluster::Cluster;
 use cl_base::{Disk, NoMemory};
 use cluster_client::{OfferFault, ToMember};
 use ingress::Outcome;
 use joined_clients::{Joined, stream_of};
 use run_report::Reply;
+use run_seats::Asking;
 use std::sync::Wait;
 use std::thread::Threads;
 

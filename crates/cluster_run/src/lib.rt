@@ -2,7 +2,6 @@
 //! services, and the run is written as it goes.
 #![tactic(auto)]
 
-mod calls;
 mod clients;
 mod clock;
 mod cluster;
@@ -10,12 +9,8 @@ mod disks;
 mod free;
 mod joined;
 mod orders;
-mod outside;
 mod reporting;
 mod rounds;
-mod running;
-mod seat;
-mod site;
 mod status;
 mod task;
 mod telling;

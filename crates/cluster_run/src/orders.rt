@@ -1,9 +1,9 @@
 // Orders, one after the other.
-use crate::calls::Asking;
 use crate::cluster::Cluster;
 use cl_base::{Disk, NoMemory};
 use ingress::Outcome;
 use run_report::Reply;
+use run_seats::Asking;
 use scenario::Order;
 use std::sync::Wait;
 use std::thread::Threads;
@@ -33,7 +33,7 @@ impl<D: Disk + Drop> Cluster<D> {
             let Some(seat) = self.seats.get_mut(member) else {
                 return Ok(());
             };
-            let number = seat.id.member;
+            let number = seat.member();
             match seat.start(&self.site, 0)? {
                 Reply::Fine | Reply::Running => {}
                 _ => self.tell_stop(number)?,

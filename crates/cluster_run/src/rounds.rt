@@ -1,8 +1,8 @@
 // Rounds: time, packets, duties, phases.
-use crate::calls::Asking;
 use crate::cluster::Cluster;
 use cl_base::{Disk, NoMemory};
 use ingress::Outcome;
+use run_seats::Asking;
 use std::sync::Wait;
 use std::thread::Threads;
 

@@ -123,7 +123,7 @@ impl Status {
         match self {
             Status::Usage => put(
                 page,
-                "usage: clusterd run [--dir D] | check | make N [--dir D]\n",
+                "usage: clusterd run [--dir D] | check | make N [--dir D] | tool describe S DIR | tool recording-log DIR | tool verify DIR DIR\n",
             ),
             Status::Refused { line, cause } => put_refused(page, line, cause),
             Status::TooLong => put(page, "scenario longer than 1048576 bytes\n"),

@@ -1,5 +1,5 @@
 // What is told while orders run is written as each order ends.
-ghost use Rattle.cluster_run.specs.Sinks.{Writes};
+ghost use Rattle.run_listing.specs.Sinks.{Writes};
 
 use crate::cluster::{Cluster, Line};
 use cl_base::{Disk, List, NoMemory, Sink, Trouble};

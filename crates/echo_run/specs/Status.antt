@@ -20,7 +20,7 @@ exit_code status.NoMemory = 10
 
 -- what a refusal writes: one line. The others write nothing of their own.
 abbrev pub status_text : Status → List ℕ
-status_text status.Usage = codes "usage: clusterd run [--dir D] | check | make N [--dir D]" ++ newline
+status_text status.Usage = codes "usage: clusterd run [--dir D] | check | make N [--dir D] | tool describe S DIR | tool recording-log DIR | tool verify DIR DIR" ++ newline
 status_text (status.Refused line c) = codes "refused line " ++ decimal line ++ codes ": " ++ cause_text c ++ newline
 status_text status.TooLong = codes "scenario longer than 1048576 bytes" ++ newline
 status_text status.ReadFault = codes "read fault" ++ newline

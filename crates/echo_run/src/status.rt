@@ -70,7 +70,7 @@ impl Status {
         match self {
             Status::Usage => put(
                 &mut page,
-                "usage: clusterd run [--dir D] | check | make N [--dir D]\n",
+                "usage: clusterd run [--dir D] | check | make N [--dir D] | tool describe S DIR | tool recording-log DIR | tool verify DIR DIR\n",
             )?,
             Status::Refused { line, cause } => put_refusal(&mut page, line, cause)?,
             Status::TooLong => put(&mut page, "scenario longer than 1048576 bytes\n")?,

@@ -26,7 +26,8 @@ member 0 up candidate 0 entries 3 same 3 commit 3 snapshots 0
 done
 ";
 
-const USAGE: &str = "usage: clusterd run [--dir D] | check | make N [--dir D]\n";
+const USAGE: &str =
+    "usage: clusterd run [--dir D] | check | make N [--dir D] | tool describe S DIR | tool recording-log DIR | tool verify DIR DIR\n";
 
 /// Runs the words over a source of these bytes. The source and the sink fail at these calls.
 fn answers(

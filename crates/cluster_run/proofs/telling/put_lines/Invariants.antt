@@ -1,5 +1,5 @@
 use Rattle.std.proofs.Common.{Ok}
-use Rattle.cluster_run.specs.Sinks.{Writes}
+use Rattle.run_listing.specs.Sinks.{Writes}
 use Rattle.cluster_run.proofs.telling.put_lines.Given as goal
 
 abbrev pub invariant-each : goal.invariant-each

@@ -1,4 +1,4 @@
-use Rattle.cluster_run.proofs.Sinks.{writes_then, writes_stops}
+use Rattle.run_listing.proofs.Sinks.{writes_then, writes_stops}
 use Rattle.cluster_run.proofs.cluster.Cluster.report_clients.Goals as goal
 
 pub returns-in_err-report_streams : goal.returns-in_err-report_streams

@@ -1,4 +1,4 @@
-use Rattle.cluster_run.proofs.Sinks.{writes_then, writes_stops, writes_of}
+use Rattle.run_listing.proofs.Sinks.{writes_then, writes_stops, writes_of}
 use Rattle.cluster_run.proofs.cluster.Cluster.report_streams.Goals as goal
 
 pub returns-in_err-stream : goal.returns-in_err-stream

@@ -1,4 +1,4 @@
-use Rattle.cluster_run.proofs.Sinks.{writes_then, writes_stops}
+use Rattle.run_listing.proofs.Sinks.{writes_then, writes_stops}
 use Rattle.cluster_run.proofs.cluster.Cluster.run_begun.Goals as goal
 
 pub returns-in_err-run_each : goal.returns-in_err-run_each

@@ -1,0 +1,111 @@
+// A running member, as its phases and its calls ask for it.
+ghost use Rattle.std.specs.Prelude.{◌≡◌, IfOk};
+ghost use Rattle.service_phases.specs.Stages.{IsIdle};
+
+use crate::outside::Outside;
+use crate::site::{MemberId, Site};
+use cl_base::{Disk, Entry, MemberFault, NoMemory};
+use consensus_agent::Agent;
+use recording_log::SnapshotAt;
+use std::marker::Model;
+
+/// What is told of a running member.
+#[derive(Clone, Copy)]
+pub struct Shown<'a> {
+    /// Its commit, in entries.
+    pub commit: u64,
+    /// Its candidate term, -1 before any.
+    pub candidate: i64,
+    /// How many entries its log has.
+    pub entries: u64,
+    /// How many of them, from the front, its module consumed.
+    pub consumed: u64,
+    /// Those behind.
+    pub ahead: &'a [Entry],
+    /// Its valid snapshot sets, by rising position.
+    pub sets: &'a [SnapshotAt],
+}
+
+/// A running member. Contracts see where it stands in its phases, and nothing else of it, so that a caller's check doesn't
+/// go through all that an agent has.
+#[derive(Drop)]
+pub(crate) struct Member<D: Disk> {
+    pub(crate) agent: Agent<D>,
+}
+
+impl<D: Disk> Model for Member<D> {
+    ghost use Rattle.consensus_agent.specs.Phases.{stage};
+    ghost use Rattle.service_phases.specs.Stages.{Stage};
+
+    ghost Value = { Stage };
+
+    ghost view = { λ m. stage m.agent.services m.agent.module m.agent.core m.agent.over };
+}
+
+impl<D: Disk> Member<D> {
+    /// A member starts from its disk, with the services of all, `now` in ms. The disk comes back with an error.
+    pub(crate) fn mount(
+        site: &Site,
+        id: MemberId,
+        disk: D,
+        now: u64,
+    ) -> Result<Member<D>, (D, MemberFault)>
+        ensures { IfOk result IsIdle }
+    {
+        let MemberId { member, members } = id;
+        match Agent::mount(site.alloc, member, members, site.kinds(), disk, now) {
+            Ok(agent) => Ok(Member { agent }),
+            Err(back) => Err(back),
+        }
+    }
+
+    /// What is told of it.
+    pub(crate) fn shown(&self) -> Shown<'_> {
+        let durable = self.agent.durable();
+        Shown {
+            commit: self.agent.commit(),
+            candidate: durable.candidate_term(),
+            entries: self.agent.index().entries(),
+            consumed: self.agent.consumed(),
+            ahead: self.agent.ahead(),
+            sets: durable.sets(),
+        }
+    }
+
+    /// What it has committed is printed.
+    pub(crate) fn print(&self, outside: &mut Outside) -> Result<(), NoMemory> {
+        outside.print(
+            self.agent.consumed(),
+            self.agent.ahead(),
+            self.agent.commit(),
+        )
+    }
+
+    /// How many services it has.
+    pub(crate) fn services(&self) -> u8 {
+        self.agent.services()
+    }
+
+    /// The entries of the snapshot from which its services began.
+    pub(crate) fn base(&self) -> u64 {
+        self.agent.base()
+    }
+
+    /// What a service consumed; nothing while a phase goes on.
+    pub(crate) fn inputs(&self, service: u8) -> &[Entry] {
+        self.agent.inputs(service)
+    }
+
+    /// Lets so many changing calls of its disk pass.
+    pub(crate) fn fuse(&mut self, calls: u64)
+        ensures { self.new ≡ self.old }
+    {
+        self.agent.fuse(calls);
+    }
+
+    /// The disk as it stands; all else is gone.
+    pub(crate) fn into_disk(self) -> D {
+        let Member { agent } = self;
+        agent.stop()
+    }
+}

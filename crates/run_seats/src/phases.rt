@@ -1,0 +1,99 @@
+// The phases of a running member.
+ghost use Rattle.std.specs.Prelude.{◌≡◌, true, false, length, OnOk, IfOk};
+ghost use Rattle.run_phases.specs.Frees.{IsFree, IsGoing};
+ghost use Rattle.service_phases.specs.Feeds.{HasCommit};
+ghost use Rattle.service_phases.specs.Pairs.{Each};
+ghost use Rattle.service_phases.specs.Stages.{IsIdle};
+
+use crate::member::Member;
+use cl_base::{Disk, List, NoMemory};
+use consensus_agent::{AgentFault, Fed};
+use egress::Sent;
+use run_phases::{Free, free_begin, free_drop, free_end, free_feed, run_phase};
+use service_container::NoGate;
+use std::alloc::Global;
+use std::sync::Wait;
+use std::thread::Threads;
+
+/// A gate for each of so many services.
+fn gates(alloc: Global, services: usize) -> Result<List<NoGate>, NoMemory>
+    ensures { IfOk result (λ gates. length gates ≡ services) }
+{
+    let mut gates = List::new(alloc);
+    for _ in 0..services {
+        gates.push(NoGate)?;
+    }
+    Ok(gates)
+}
+
+impl<D: Disk> Member<D> {
+    /// A whole phase: the services consume what is committed. Gives the records that go out.
+    pub(crate) fn phase<R: Threads + Wait + Copy + Send + Sync + 'static>(
+        &mut self,
+        rt: &R,
+        alloc: Global,
+    ) -> Result<List<Sent>, AgentFault>
+        requires idle { IsIdle self.old }
+        ensures idle { OnOk result (IsIdle self.new) }
+    {
+        run_phase(rt, alloc, &mut self.agent, &NoGate)
+    }
+
+    /// A phase begins that goes on over calls, with no gates.
+    pub(crate) fn begin<R: Threads + Wait + Copy + Send + Sync + 'static>(
+        &mut self,
+        rt: &R,
+        alloc: Global,
+    ) -> Result<Free<NoGate>, NoMemory>
+        requires idle { IsIdle self.old }
+        ensures free { IfOk result (λ p. IsFree self.new p) }
+        ensures going { IfOk result (λ p. IsGoing self.new p.feeds) }
+        ensures on { IfOk result (λ _. self.new.over ≡ false) }
+    {
+        let gates = gates(alloc, self.agent.at_hand())?;
+        free_begin(rt, alloc, &mut self.agent, gates)
+    }
+
+    /// Feeds a phase what is committed. Over exactly where it is over.
+    pub(crate) fn feed<R: Threads + Wait + Copy + Send + Sync + 'static>(
+        &mut self,
+        rt: &R,
+        alloc: Global,
+        phase: &mut Free<NoGate>,
+    ) -> Result<Fed, AgentFault>
+        requires free { IsFree self.old phase.old }
+        requires going { IsGoing self.old phase.old.feeds }
+        ensures free { IsFree self.new phase.new }
+        ensures going { OnOk result (IsGoing self.new phase.new.feeds) }
+        ensures published { OnOk result (Each (HasCommit self.new.commit) phase.new.feeds) }
+        ensures over { OnOk result (self.new.over ≡ self.old.over) }
+        ensures goes_on { IfOk result (λ fed. self.new.over ≡ true → fed ≡ Fed.Over) }
+    {
+        free_feed(rt, alloc, &mut self.agent, phase)
+    }
+
+    /// A phase ends. Gives the records that go out.
+    pub(crate) fn end<R: Threads + Wait + Copy + Send + Sync + 'static>(
+        &mut self,
+        rt: &R,
+        alloc: Global,
+        phase: Free<NoGate>,
+    ) -> Result<List<Sent>, AgentFault>
+        requires free { IsFree self.old phase }
+        requires going { IsGoing self.old phase.feeds }
+        ensures idle { OnOk result (IsIdle self.new) }
+    {
+        free_end(rt, alloc, &mut self.agent, phase)
+    }
+
+    /// A phase is dropped.
+    pub(crate) fn drop_phase<R: Threads + Wait + Copy + Send + Sync + 'static>(
+        &mut self,
+        rt: &R,
+        phase: Free<NoGate>,
+    )
+        requires { IsFree self.old phase }
+    {
+        free_drop(rt, &mut self.agent, phase);
+    }
+}

@@ -1,0 +1,407 @@
+// One member of a run, with its disk.
+ghost use Rattle.std.specs.Prelude.{◌≡◌, ◌+◌, ◌≤◌, ◌<◌, ◌^◌, IfOk, length};
+
+use crate::calls::{Asking, Call};
+use crate::mounted::Mounted;
+use crate::outside::Outside;
+use crate::running::{Failed, Running, Stopped, start};
+use crate::site::{MemberId, Site};
+use cl_base::{Choice, Disk, Entry, List, MemberFault, NoMemory};
+use ingress::Outcome;
+use run_report::Reply;
+use std::alloc::Global;
+use std::marker::Model;
+use std::mem;
+use std::sync::Wait;
+use std::thread::Threads;
+
+/// What one run of a service consumed.
+#[derive(Drop)]
+pub struct ServiceRun {
+    /// The service's number, 0 to 2.
+    pub service: u8,
+    /// The run's number among the member's runs, from 1.
+    pub run: u64,
+    /// The entries of the snapshot from which it began.
+    pub from: u64,
+    /// What it consumed, in order.
+    pub inputs: List<Entry>,
+    ghost numbered: { from + length inputs < 2 ^ 64 },
+}
+
+/// Where a member's disk is.
+#[derive(Drop)]
+enum Home<D: Disk> {
+    /// The member runs.
+    Up(Running<D>),
+    /// The member is stopped.
+    Down(D),
+    /// For a moment, while it is changed.
+    Taken,
+}
+
+/// What became of a step of a member.
+#[derive(Clone, Copy, Debug, PartialEq, Eq)]
+pub enum Took {
+    /// The member is stopped, and wasn't asked.
+    Down,
+    /// It was taken. A client and an operator get an outcome.
+    Taken(Option<Outcome>),
+    /// The member's disk failed, or holds bytes that are none of its own: it was stopped at once.
+    Stopped,
+}
+
+/// One member of a run, with its disk. Contracts see nothing of it.
+#[derive(Drop)]
+pub struct Seat<D: Disk> {
+    id: MemberId,
+    home: Home<D>,
+    /// What the crash after a failing call leaves.
+    choice: Choice,
+    /// How often it was started.
+    run: u64,
+    /// What the services of its ended runs consumed, by run and service.
+    ended: Vec<ServiceRun>,
+}
+
+impl<D: Disk> Model for Seat<D> {
+    ghost use Rattle.std.specs.Prelude.{ℕ};
+
+    ghost Value = { ℕ };
+
+    ghost view = { λ _. 0 };
+}
+
+/// The number of the first of so many entries: this one, or a lower one where the last would have no number below 2^64.
+pub fn first_number(first: u64, count: usize) -> u64
+    ensures { result + count < 2 ^ 64 }
+{
+    first.min(u64::MAX - count as u64)
+}
+
+/// A copy of these entries.
+fn copied(alloc: Global, entries: &[Entry]) -> Result<List<Entry>, NoMemory>
+    ensures { IfOk result (λ copies. length copies ≡ length entries.now) }
+{
+    let mut copies = List::new(alloc);
+    for entry in entries {
+        copies.push(entry.copy()?)?;
+    }
+    Ok(copies)
+}
+
+impl<D: Disk + Drop> Seat<D> {
+    /// A stopped member on this disk.
+    pub fn new(alloc: Global, id: MemberId, disk: D) -> Seat<D> {
+        Seat {
+            id,
+            home: Home::Down(disk),
+            choice: Choice::Keep,
+            run: 0,
+            ended: Vec::new(alloc),
+        }
+    }
+
+    /// The member's number, 0 to 4.
+    pub fn member(&self) -> u8 {
+        self.id.member
+    }
+
+    /// How often it was started.
+    pub fn run(&self) -> u64 {
+        self.run
+    }
+
+    /// What the services of its ended runs consumed, by run and service.
+    pub fn ended(&self) -> &[ServiceRun] {
+        self.ended.as_slice()
+    }
+
+    /// The member, where it runs.
+    pub fn running(&self) -> Option<&Running<D>> {
+        match &self.home {
+            Home::Up(running) => Some(running),
+            _ => None,
+        }
+    }
+
+    /// Mounts the disk of a member that is stopped; None where it runs. The caller gives the mounted disk to `unmount`.
+    pub fn mount(&mut self, site: &Site) -> Option<Result<Mounted<D>, MemberFault>> {
+        let disk = self.take_disk()?;
+        match Mounted::mount(site, disk) {
+            Ok(mounted) => Some(Ok(mounted)),
+            Err((disk, fault)) => {
+                self.home = Home::Down(disk);
+                Some(Err(fault))
+            }
+        }
+    }
+
+    /// The disk of a member that is stopped comes back, as it stands.
+    pub fn unmount(&mut self, mounted: Mounted<D>) {
+        self.home = Home::Down(mounted.into_disk());
+    }
+
+    /// Keeps what the services consumed, for the report.
+    fn keep_inputs(&mut self, alloc: Global, stopped: &Stopped<D>) -> Result<(), NoMemory> {
+        for service in 0..stopped.services() {
+            let entries = stopped.inputs(service);
+            let inputs = copied(alloc, entries)?;
+            let ended = ServiceRun {
+                service,
+                run: self.run,
+                from: first_number(stopped.base(), entries.len()),
+                inputs,
+            };
+            if self.ended.push(ended).is_err() {
+                return Err(NoMemory);
+            }
+        }
+        Ok(())
+    }
+
+    /// The member stops: all that isn't on its disk is gone, and a crash leaves of the disk what the choice says.
+    fn crash(
+        &mut self,
+        alloc: Global,
+        stopped: Stopped<D>,
+        choice: Choice,
+    ) -> Result<(), NoMemory> {
+        let kept = self.keep_inputs(alloc, &stopped);
+        self.rest(stopped.into_disk(), choice);
+        kept
+    }
+
+    /// Takes a member that runs out of its seat. The caller puts what becomes of it back.
+    fn take_running(&mut self) -> Option<Running<D>> {
+        match mem::replace(&mut self.home, Home::Taken) {
+            Home::Up(running) => Some(running),
+            home => {
+                self.home = home;
+                None
+            }
+        }
+    }
+
+    /// Takes the disk of a member that is stopped out of its seat. The caller puts what becomes of it back.
+    fn take_disk(&mut self) -> Option<D> {
+        match mem::replace(&mut self.home, Home::Taken) {
+            Home::Down(disk) => Some(disk),
+            home => {
+                self.home = home;
+                None
+            }
+        }
+    }
+
+    /// A member that runs stops at rest, and the answer is true.
+    pub fn stop<R: Threads + Wait + Copy + Send + Sync + 'static>(
+        &mut self,
+        rt: &R,
+        alloc: Global,
+    ) -> Result<bool, NoMemory> {
+        let Some(running) = self.take_running() else {
+            return Ok(false);
+        };
+        self.crash(alloc, running.stop(rt), Choice::Keep)?;
+        Ok(true)
+    }
+
+    /// A member that a call failed under stops. Where memory was wanted, the run is given up.
+    fn fail(&mut self, alloc: Global, failed: Failed<D>) -> Result<Took, NoMemory> {
+        if failed.wants_memory() {
+            self.home = Home::Down(failed.stop().into_disk());
+            return Err(NoMemory);
+        }
+        self.crash(alloc, failed.stop(), self.choice)?;
+        Ok(Took::Stopped)
+    }
+
+    /// A member's step is done, or the member failed under it.
+    fn settle(
+        &mut self,
+        alloc: Global,
+        stepped: Result<Running<D>, Failed<D>>,
+    ) -> Result<Took, NoMemory> {
+        match stepped {
+            Ok(running) => {
+                self.home = Home::Up(running);
+                Ok(Took::Taken(None))
+            }
+            Err(failed) => self.fail(alloc, failed),
+        }
+    }
+
+    /// Asks a member that runs, `now` in ms.
+    pub fn ask<R: Threads + Wait + Copy + Send + Sync + 'static>(
+        &mut self,
+        rt: &R,
+        outside: &mut Outside,
+        asking: Asking<'_>,
+        now: u64,
+    ) -> Result<Took, NoMemory>
+        requires { now ≤ 2 ^ 60 }
+    {
+        let Some(running) = self.take_running() else {
+            return Ok(Took::Down);
+        };
+        let call = Call {
+            member: self.id.member,
+            now,
+            asking,
+        };
+        match running.ask(rt, outside, call) {
+            Ok((running, outcome)) => {
+                self.home = Home::Up(running);
+                Ok(Took::Taken(outcome))
+            }
+            Err(failed) => self.fail(outside.alloc, failed),
+        }
+    }
+
+    /// A member that runs has a whole phase, unless one of it goes on.
+    pub fn phase<R: Threads + Wait + Copy + Send + Sync + 'static>(
+        &mut self,
+        rt: &R,
+        outside: &mut Outside,
+    ) -> Result<Took, NoMemory> {
+        let Some(running) = self.take_running() else {
+            return Ok(Took::Down);
+        };
+        let stepped = running.phase(rt, outside);
+        self.settle(outside.alloc, stepped)
+    }
+
+    /// A phase of a member that runs begins, and goes on over its calls.
+    pub fn begin<R: Threads + Wait + Copy + Send + Sync + 'static>(
+        &mut self,
+        rt: &R,
+        alloc: Global,
+    ) -> Result<Took, NoMemory> {
+        let Some(running) = self.take_running() else {
+            return Ok(Took::Down);
+        };
+        let stepped = running.begin(rt, alloc);
+        self.settle(alloc, stepped)
+    }
+
+    /// The phase of a member that goes on ends, and its records are sent.
+    pub fn end<R: Threads + Wait + Copy + Send + Sync + 'static>(
+        &mut self,
+        rt: &R,
+        outside: &mut Outside,
+    ) -> Result<Took, NoMemory> {
+        let Some(running) = self.take_running() else {
+            return Ok(Took::Down);
+        };
+        let stepped = running.end(rt, outside);
+        self.settle(outside.alloc, stepped)
+    }
+
+    /// What a member that runs has committed is printed.
+    pub fn print(&self, outside: &mut Outside) -> Result<(), NoMemory> {
+        match &self.home {
+            Home::Up(running) => running.print(outside),
+            _ => Ok(()),
+        }
+    }
+
+    /// The disk is at rest after a crash, which clears its fuse.
+    fn rest(&mut self, disk: D, choice: Choice) {
+        let mut disk = disk;
+        disk.crash(choice);
+        self.choice = Choice::Keep;
+        self.home = Home::Down(disk);
+    }
+
+    /// The member couldn't be started, or its disk not be mounted.
+    fn fall_back(&mut self, disk: D, fault: MemberFault) -> Result<Reply, NoMemory> {
+        match fault {
+            MemberFault::Device | MemberFault::LogFull { .. } => {
+                self.rest(disk, self.choice);
+                Ok(Reply::Given(Outcome::Device))
+            }
+            MemberFault::Damaged { file, place } => {
+                self.home = Home::Down(disk);
+                Ok(Reply::Damaged { file, place })
+            }
+            MemberFault::NoMemory => {
+                self.home = Home::Down(disk);
+                Err(NoMemory)
+            }
+        }
+    }
+
+    /// The member starts, `now` in ms.
+    pub fn start(&mut self, site: &Site, now: u64) -> Result<Reply, NoMemory> {
+        let Some(disk) = self.take_disk() else {
+            return Ok(Reply::Running);
+        };
+        match start(site, self.id, disk, now) {
+            Ok(running) => {
+                self.run = self.run.saturating_add(1);
+                self.home = Home::Up(running);
+                Ok(Reply::Fine)
+            }
+            Err((disk, fault)) => self.fall_back(disk, fault),
+        }
+    }
+
+    /// The latest valid snapshot of a stopped member goes.
+    pub fn invalidate(&mut self, site: &Site) -> Result<Reply, NoMemory> {
+        let Some(disk) = self.take_disk() else {
+            return Ok(Reply::Running);
+        };
+        match Mounted::mount(site, disk) {
+            Ok(mounted) => self.strike(mounted),
+            Err((disk, fault)) => self.fall_back(disk, fault),
+        }
+    }
+
+    fn strike(&mut self, mounted: Mounted<D>) -> Result<Reply, NoMemory> {
+        match mounted.strike() {
+            (disk, Ok(struck)) => {
+                self.home = Home::Down(disk);
+                Ok(if struck {
+                    Reply::Fine
+                } else {
+                    Reply::NoSnapshot
+                })
+            }
+            (disk, Err(fault)) => self.fall_back(disk, fault),
+        }
+    }
+
+    /// The disk lets so many changing calls pass, and the crash that follows leaves what the choice says.
+    pub fn set_fuse(&mut self, calls: u64, choice: Choice) {
+        self.home = match mem::replace(&mut self.home, Home::Taken) {
+            Home::Up(running) => Home::Up(running.fuse(calls)),
+            Home::Down(disk) => {
+                let mut disk = disk;
+                disk.fuse(calls);
+                Home::Down(disk)
+            }
+            Home::Taken => Home::Taken,
+        };
+        self.choice = choice;
+    }
+
+    /// The disk as it stands. A phase that goes on is dropped.
+    pub fn into_disk<R: Threads + Wait + Copy + Send + Sync + 'static>(
+        self,
+        rt: &R,
+    ) -> Result<D, NoMemory> {
+        let Seat {
+            id: _,
+            home,
+            choice: _,
+            run: _,
+            ended: _,
+        } = self;
+        match home {
+            Home::Up(running) => Ok(running.stop(rt).into_disk()),
+            Home::Down(disk) => Ok(disk),
+            Home::Taken => Err(NoMemory),
+        }
+    }
+}
