@@ -69,12 +69,13 @@ impl Joined {
     }
 
     // Takes one record of its stream. Bytes that are no message hand out nothing.
-    fn take(&mut self, alloc: Global, record: &Sent, now: u64) -> Result<(), NoMemory>
-        ensures { OnOk result (self.new ≡ takes self.old record.now) }
+    fn take(&mut self, alloc: Global, sent: &Sent, now: u64) -> Result<(), NoMemory>
+        ensures { OnOk result (self.new ≡ takes self.old sent.now) }
     {
-        match self.client.on_egress(alloc, record.bytes.as_slice(), now) {
+        match self.client.on_egress(alloc, sent.bytes.as_slice(), now) {
             Ok(Took::Handed { term, payload }) => self.handed.push(Got { term, payload }),
-            Ok(Took::Ignored) | Err(DecodeFault::Bad(_)) => Ok(()),
+            Ok(Took::Ignored) => Ok(()),
+            Err(DecodeFault::Bad(_)) => Ok(()),
             Err(DecodeFault::NoMemory) => Err(NoMemory),
         }
     }
@@ -83,7 +84,7 @@ impl Joined {
     fn hear(&mut self, alloc: Global, stream: &[Sent], now: u64) -> Result<(), NoMemory>
         ensures { OnOk result (self.new ≡ hears stream.now self.old) }
     {
-        while self.given < stream.len() {
+        'each: while self.given < stream.len() {
             self.take(alloc, &stream[self.given], now)?;
             self.given += 1;
         }
