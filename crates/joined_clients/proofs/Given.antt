@@ -23,7 +23,7 @@ use Rattle.cluster_client.specs.Handed.{handed}
 use Rattle.cluster_client.specs.Runs.{Event, Steps, Hears, Hears_nothing, Offers, ComesTo, after, offered_unless, got_of, got_by, got_by_answer, all_got, given}
 use Rattle.cluster_client.proofs.Handing.{new_gets}
 use Rattle.cluster_client.proofs.Listed.{give_comes}
-use Rattle.joined_clients.specs.Joined.{JoinedSeen, joins, stream_of, meets, event_unless, event_of, takes, takes_next, hears, offers}
+use Rattle.joined_clients.specs.Joined.{JoinedSeen, joins, stream_of, meets, event_unless, event_of, takes, takes_next, hears, offers, keeps}
 
 -- what bytes read as is what stands in them
 read_is : (bytes : List ℕ) (m : Egress) → ReadsEgress bytes m → value_of bytes ≡ m
@@ -69,6 +69,10 @@ passed bytes old new b fault same = by (first_fault_egress bytes) fault
 -- the same joined client, but for its client and what it was handed
 abbrev pub made : JoinedSeen → ClientSeen → List Got → JoinedSeen
 made j c handed = record { number = j.number; client = c; given = j.given; handed = handed }
+
+-- what an event hands out is kept
+pub kept : (j : JoinedSeen) (e : Event) (new : ClientSeen) (got : Option Got) → got ≡ got_by e j.client → new ≡ after e j.client → keeps got (made j new j.handed) ≡ meets j e
+kept j e new got h c = ap (λ (o : Option Got). made j new (j.handed ++ cons_option o [])) h ∙ ap (λ (x : ClientSeen). made j x (j.handed ++ cons_option (got_by e j.client) [])) c
 
 -- an event that hands something out
 pub hands_one : (j : JoinedSeen) (e : Event) (new : ClientSeen) (got : Got) → Some got ≡ got_by e j.client → new ≡ after e j.client → made j new (j.handed ++ got ∷ []) ≡ meets j e

@@ -31,6 +31,10 @@ joins n members = record { number = n; client = new_client (stream_of n) members
 abbrev pub meets : JoinedSeen → Event → JoinedSeen
 meets j e = record { number = j.number; client = after e j.client; given = j.given; handed = j.handed ++ cons_option (got_by e j.client) [] }
 
+-- it keeps what it was handed, if anything
+abbrev pub keeps : Option Got → JoinedSeen → JoinedSeen
+keeps got j = record { number = j.number; client = j.client; given = j.given; handed = j.handed ++ cons_option got [] }
+
 abbrev pub event_unless : Option Bad → Egress → Event
 event_unless None m = Hears m
 event_unless (Some bad) m = Hears_nothing

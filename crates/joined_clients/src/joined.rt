@@ -2,7 +2,8 @@
 ghost use Rattle.std.specs.Prelude.{◌≡◌, ◌≤◌, ◌<◌, IfOk, OnOk, OnErr, IfErr, IfSome, Some, None, length};
 ghost use Rattle.cluster_client.specs.declared.answers.OfferFault.{OfferFault};
 ghost use Rattle.cluster_client.specs.Calls.{refusal, offer_sends};
-ghost use Rattle.joined_clients.specs.Joined.{joins, stream_of, takes, hears, turned, turn_sends, offers};
+ghost use Rattle.cluster_client.specs.Runs.{got_of};
+ghost use Rattle.joined_clients.specs.Joined.{joins, stream_of, keeps, takes, hears, turned, turn_sends, offers};
 
 use cl_base::{List, NoMemory};
 use cluster_client::{Client, Got, OfferFault, ToMember, Took};
@@ -39,6 +40,16 @@ pub fn stream_of(number: u64) -> i32
     }
 }
 
+// What is handed out by what a client took.
+fn got_of(took: Took) -> Option<Got>
+    ensures { result ≡ got_of took }
+{
+    match took {
+        Took::Handed { term, payload } => Some(Got { term, payload }),
+        Took::Ignored => None,
+    }
+}
+
 impl Joined {
     /// The client of this number joins a cluster of so many members, 1 to 5. It takes no memory.
     pub fn new(alloc: Global, number: u64, members: u8) -> Joined
@@ -68,13 +79,22 @@ impl Joined {
         self.handed.as_slice()
     }
 
+    // Keeps what it was handed, if anything, behind the rest.
+    fn keep(&mut self, got: Option<Got>) -> Result<(), NoMemory>
+        ensures { OnOk result (self.new ≡ keeps got self.old) }
+    {
+        if let Some(got) = got {
+            self.handed.push(got)?;
+        }
+        Ok(())
+    }
+
     // Takes one record of its stream. Bytes that are no message hand out nothing.
     fn take(&mut self, alloc: Global, sent: &Sent, now: u64) -> Result<(), NoMemory>
         ensures { OnOk result (self.new ≡ takes self.old sent.now) }
     {
         match self.client.on_egress(alloc, sent.bytes.as_slice(), now) {
-            Ok(Took::Handed { term, payload }) => self.handed.push(Got { term, payload }),
-            Ok(Took::Ignored) => Ok(()),
+            Ok(took) => self.keep(got_of(took)),
             Err(DecodeFault::Bad(_)) => Ok(()),
             Err(DecodeFault::NoMemory) => Err(NoMemory),
         }
