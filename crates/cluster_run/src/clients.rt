@@ -1,13 +1,9 @@
 // What clients send.
 use crate::cluster::Cluster;
 use cl_base::{Bytes, Disk, NoMemory};
+use joined_clients::stream_of;
 use sbe_client::{Ingress, encode_ingress};
 use scenario::Order;
-
-/// The stream of a client, 0 to 63: its own number.
-fn stream_of(client: u64) -> i32 {
-    i32::try_from(client).unwrap_or(-1)
-}
 
 impl<D: Disk + Drop> Cluster<D> {
     /// The bytes that a client sends by an order, none where the order is no client's.

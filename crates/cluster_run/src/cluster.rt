@@ -2,6 +2,7 @@
 use crate::clock::Clock;
 use cl_base::{Disk, List, NoMemory};
 use ingress::Outcome;
+use joined_clients::Joined;
 use run_report::Reply;
 use run_seats::{Outside, Seat, Site, Took};
 use std::alloc::Global;
@@ -27,6 +28,8 @@ pub(crate) struct Cluster<D: Disk> {
     pub(crate) outside: Outside,
     /// How many connects each client has sent.
     pub(crate) connects: Vec<i64>,
+    /// The clients that joined, by rising number.
+    pub(crate) joined: Vec<Joined>,
     /// Phases go on over orders.
     pub(crate) free: bool,
     /// What was told and isn't written yet.
@@ -55,6 +58,7 @@ impl<D: Disk + Drop> Cluster<D> {
             seats,
             outside,
             connects,
+            joined: Vec::new(alloc),
             free: false,
             told: List::new(alloc),
             refused: 0,

@@ -7,6 +7,7 @@ mod clock;
 mod cluster;
 mod disks;
 mod free;
+mod joined;
 mod orders;
 mod reporting;
 mod rounds;

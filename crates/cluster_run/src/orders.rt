@@ -69,8 +69,13 @@ impl<D: Disk + Drop> Cluster<D> {
             | Order::Heal { .. }
             | Order::Lose { .. }
             | Order::Replay { .. } => self.disturb(order),
-            Order::Join { .. } | Order::Offer { .. } => Ok(()),
-            Order::Backup { .. } | Order::BackupOff { .. } | Order::BackupLose { .. } => Ok(()),
+            Order::Join { client, .. } => self.join(*client),
+            Order::Offer { line, client, text } => {
+                self.offer(rt, *line, *client, text.as_slice())
+            }
+            Order::Backup { line, .. }
+            | Order::BackupOff { line }
+            | Order::BackupLose { line } => self.tell(*line, Reply::NotBuilt),
         }
     }
 
@@ -111,7 +116,11 @@ impl<D: Disk + Drop> Cluster<D> {
     }
 
     /// Tells a client's or an operator's outcome, where there is one.
-    fn tell_outcome(&mut self, line: u64, outcome: Option<Outcome>) -> Result<(), NoMemory> {
+    pub(crate) fn tell_outcome(
+        &mut self,
+        line: u64,
+        outcome: Option<Outcome>,
+    ) -> Result<(), NoMemory> {
         match outcome {
             Some(outcome) => self.tell(line, Reply::Given(outcome)),
             None => Ok(()),

@@ -45,7 +45,25 @@ impl<D: Disk + Drop> Cluster<D> {
         ensures { Writes O.tells O.held O.fault_count sink.old sink.new result }
     {
         self.report_streams(page, sink)?;
+        self.report_joined(page, sink)
+    }
+
+    /// The report, from the joined clients on.
+    fn report_joined<O: Sink>(&mut self, page: &mut Page, sink: &mut O) -> Result<(), Trouble>
+        ensures { Writes O.tells O.held O.fault_count sink.old sink.new result }
+    {
+        self.report_handed(page, sink)?;
         self.report_disks(page, sink)
+    }
+
+    /// What each joined client was handed.
+    fn report_handed<O: Sink>(&self, page: &mut Page, sink: &mut O) -> Result<(), Trouble>
+        ensures { Writes O.tells O.held O.fault_count sink.old sink.new result }
+    {
+        'each: for joined in &self.joined {
+            page.client(sink, joined.number(), joined.handed())?;
+        }
+        Ok(())
     }
 
     /// The report, from the members on.

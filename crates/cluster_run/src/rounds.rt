@@ -16,6 +16,7 @@ impl<D: Disk + Drop> Cluster<D> {
     ) -> Result<(), NoMemory> {
         for _ in 0..count {
             self.clock.tick();
+            self.joined_round(rt)?;
             self.take_packets(rt)?;
             for member in 0..self.seats.len() {
                 self.ask(rt, member, Asking::Duty)?;

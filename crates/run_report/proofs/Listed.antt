@@ -6,9 +6,10 @@ use denote.Ref.{Bor}
 use Rattle.cl_base.specs.declared.entry.Entry.{Entry}
 use Rattle.egress.specs.declared.sent.Sent.{Sent}
 use Rattle.recording_log.specs.declared.entry.SnapshotAt.{SnapshotAt}
+use Rattle.cluster_client.specs.declared.runs.Got.{Got}
 use Rattle.run_report.specs.declared.line.EntryKind.{EntryKind}
 use Rattle.run_report.specs.declared.line.Line.TheVariants as line
-use Rattle.run_report.specs.Text.{line_text, entry_line, entry_lines, record_line, record_lines, set_line, stream_text}
+use Rattle.run_report.specs.Text.{line_text, entry_line, entry_lines, record_line, record_lines, got_line, set_line, stream_text}
 
 one_more : (kind : EntryKind) (e : Entry) (n : ℕ) (es : List Entry) (i : ℕ) → n < length es → e ≡ get_or es n e → entry_lines kind i (take (suc n) es) ≡ entry_lines kind i (take n es) ++ entry_line kind (i + n) e
 one_more kind e n [] i b h = absurd (omega arith)
@@ -44,6 +45,10 @@ entry_is kind i e = refl
 pub record_is : (s : Bor Sent) → line_text (line.Record s) ≡ record_line s.now
 unfolding line_text
 record_is s = refl
+
+pub got_is : (g : Bor Got) → line_text (line.Got g) ≡ got_line g.now
+unfolding line_text
+got_is g = refl
 
 pub set_is : (s : Bor SnapshotAt) → line_text (line.Set s) ≡ set_line s.now
 unfolding line_text

@@ -48,6 +48,8 @@ reply_text reply.Fine = codes "ok"
 reply_text reply.Running = codes "running"
 reply_text (reply.Damaged file place) = count (codes "damaged ") file ++ count (codes " ") place
 reply_text reply.NoSnapshot = codes "no snapshot"
+reply_text reply.NotOpen = codes "not open"
+reply_text reply.NotBuilt = codes "not built"
 
 -- what became of the order in a line
 abbrev pub order_line : ℕ → Reply → List ℕ

@@ -8,6 +8,7 @@ use Rattle.sbe_events.specs.declared.event.Event.{Event}
 use Rattle.sbe_events.specs.declared.event.Event.TheVariants as event
 use Rattle.egress.specs.declared.sent.Sent.{Sent}
 use Rattle.recording_log.specs.declared.entry.SnapshotAt.{SnapshotAt}
+use Rattle.cluster_client.specs.declared.runs.Got.{Got}
 use Rattle.run_report.specs.Pieces.{hex_text, newline, count, value}
 use Rattle.run_report.specs.declared.line.EntryKind.{EntryKind}
 use Rattle.run_report.specs.declared.line.EntryKind.TheVariants as kinds
@@ -95,6 +96,14 @@ origin_text (Some entry) (Some service) number = decimal entry ++ codes " servic
 unfoldable pub record_line : Sent → List ℕ
 record_line s = codes "out " ++ origin_text s.entry s.service s.number ++ codes " " ++ hex_text s.bytes ++ newline
 
+-- a joined client, and how many messages it was handed
+abbrev pub client_line : ℕ → ℕ → List ℕ
+client_line client n = codes "client " ++ decimal client ++ codes " handed " ++ decimal n ++ newline
+
+-- a message that a joined client was handed: the term in which it was sent, and what it says
+unfoldable pub got_line : Got → List ℕ
+got_line g = codes "got " ++ signed_decimal g.term ++ codes " " ++ hex_text g.payload ++ newline
+
 abbrev pub state_text : Option ℕ → List ℕ
 state_text None = codes "down"
 state_text (Some commit) = codes "up"
@@ -134,6 +143,8 @@ line_text (line.Entry kind index e) = entry_line kind index e.now
 line_text (line.Run r n) = run_line r n
 line_text (line.Stream stream n) = stream_line stream n
 line_text (line.Record s) = record_line s.now
+line_text (line.Client client n) = client_line client n
+line_text (line.Got g) = got_line g.now
 line_text (line.Member m sets) = member_line m sets
 line_text (line.Unread member) = unread_line member
 line_text (line.Damaged member file place) = damaged_line member file place
@@ -143,6 +154,9 @@ line_text line.Done = codes "done" ++ newline
 
 abbrev pub record_lines : List Sent → List ℕ
 record_lines sent = flat_map record_line sent
+
+abbrev pub got_lines : List Got → List ℕ
+got_lines got = flat_map got_line got
 
 abbrev pub set_lines : List SnapshotAt → List ℕ
 set_lines sets = flat_map set_line sets
@@ -161,6 +175,10 @@ run_text r inputs = line_text (line.Run r (length inputs)) ++ entry_lines kinds.
 abbrev pub stream_text : ℤ → List Sent → List ℕ
 stream_text stream [] = []
 stream_text stream (s ∷ sent) = line_text (line.Stream stream (length (s ∷ sent))) ++ record_lines (s ∷ sent)
+
+-- a joined client, and what it was handed
+abbrev pub client_text : ℕ → List Got → List ℕ
+client_text client got = line_text (line.Client client (length got)) ++ got_lines got
 
 -- a member, its own entries from where its log leaves the printed one, and its valid snapshot sets
 abbrev pub member_text : MemberAt → List Entry → List SnapshotAt → List ℕ

@@ -1,5 +1,6 @@
 // The lines of a report.
 use cl_base::Entry;
+use cluster_client::Got;
 use egress::Sent;
 use recording_log::SnapshotAt;
 
@@ -83,6 +84,13 @@ pub enum Line<'a> {
     },
     /// A record that was sent.
     Record(&'a Sent),
+    /// The head of a joined client, 0 to 63, which was handed so many messages.
+    Client {
+        client: u64,
+        count: usize,
+    },
+    /// A message that it was handed.
+    Got(&'a Got),
     /// A member with so many valid snapshot sets.
     Member {
         end: MemberAt,

@@ -1,11 +1,12 @@
 // The text of a report's lines.
 ghost use Rattle.std.specs.Prelude.{◌≡◌, ◌++◌, OnOk, string_bytes};
-ghost use Rattle.run_report.specs.Text.{word_of, entry_line, run_line, origin_text, record_line, member_front, commit_text, member_back, member_line, unread_line, damaged_line, set_line, made_front, made_back, line_text};
+ghost use Rattle.run_report.specs.Text.{word_of, entry_line, run_line, origin_text, record_line, client_line, got_line, member_front, commit_text, member_back, member_line, unread_line, damaged_line, set_line, made_front, made_back, line_text};
 
 use crate::events::put_bytes;
 use crate::line::{EntryKind, Line, Made, MemberAt, RunAt};
 use crate::pieces::{put, put_count, put_hex};
 use cl_base::{Entry, NoMemory};
+use cluster_client::Got;
 use egress::Sent;
 use recording_log::SnapshotAt;
 
@@ -62,6 +63,16 @@ fn put_record(page: &mut String, sent: &Sent) -> Result<(), NoMemory>
     put_origin(page, sent)?;
     put(page, " ")?;
     put_hex(page, sent.bytes.as_slice())?;
+    put(page, "\n")
+}
+
+#[tactic(auto, unfolding(crate::specs::Text::got_line))]
+fn put_got(page: &mut String, got: &Got) -> Result<(), NoMemory>
+    ensures { OnOk result (string_bytes page.new ≡ string_bytes page.old ++ got_line got.now) }
+{
+    let term = got.term;
+    write!(page, "got {term} ")?;
+    put_hex(page, got.payload.as_slice())?;
     put(page, "\n")
 }
 
@@ -163,6 +174,8 @@ pub fn put_line(page: &mut String, line: &Line) -> Result<(), NoMemory>
         Line::Run { at, count } => put_run(page, *at, *count)?,
         Line::Stream { stream, count } => write!(page, "stream {stream} egress {count}\n")?,
         Line::Record(sent) => put_record(page, sent)?,
+        Line::Client { client, count } => write!(page, "client {client} handed {count}\n")?,
+        Line::Got(got) => put_got(page, got)?,
         Line::Member { end, sets } => put_member(page, end, *sets)?,
         Line::Unread { member } => put_unread(page, *member)?,
         Line::Damaged {

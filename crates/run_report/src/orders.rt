@@ -24,6 +24,10 @@ pub enum Reply {
     Damaged { file: u32, place: u64 },
     /// No valid snapshot set is there.
     NoSnapshot,
+    /// A joined client that is to offer has no session.
+    NotOpen,
+    /// What it asks for isn't built: nothing was done.
+    NotBuilt,
 }
 
 fn put_leader(page: &mut String, leader: i32) -> Result<(), NoMemory>
@@ -88,6 +92,8 @@ fn put_reply(page: &mut String, reply: Reply) -> Result<(), NoMemory>
             put_count(page, " ", place)
         }
         Reply::NoSnapshot => put(page, "no snapshot"),
+        Reply::NotOpen => put(page, "not open"),
+        Reply::NotBuilt => put(page, "not built"),
     }
 }
 

@@ -1,12 +1,13 @@
 // The report, written in blocks.
 ghost use Rattle.std.specs.Prelude.{◌≡◌, ◌++◌, ◌+◌, ◌<◌, ◌^◌, [], IsTrue, OnOk, OnErr, IfErr, IsErrOf, length, string_bytes};
 ghost use Rattle.run_report.specs.Written.{Adds};
-ghost use Rattle.run_report.specs.Text.{line_text, entry_lines, record_lines, set_lines, log_text, run_text, stream_text, member_text};
+ghost use Rattle.run_report.specs.Text.{line_text, entry_lines, record_lines, got_lines, set_lines, log_text, run_text, stream_text, client_text, member_text};
 
 use crate::line::{EntryKind, Line, Made, MemberAt, RunAt};
 use crate::lines::put_line;
 use crate::stream::{BLOCK, give};
 use cl_base::{Entry, NoMemory, Sink, Trouble};
+use cluster_client::Got;
 use egress::Sent;
 use recording_log::SnapshotAt;
 use std::alloc::Global;
@@ -104,6 +105,16 @@ impl Page {
         Ok(())
     }
 
+    // Messages that a joined client was handed.
+    fn handed<O: Sink>(&mut self, sink: &mut O, messages: &[Got]) -> Result<(), Trouble>
+        ensures { Adds O.tells O.held O.fault_count sink.old sink.new self.old self.new (got_lines messages.now) result }
+    {
+        for got in messages {
+            self.line(sink, &Line::Got(got))?;
+        }
+        Ok(())
+    }
+
     // Valid snapshot sets.
     fn sets<O: Sink>(&mut self, sink: &mut O, sets: &[SnapshotAt]) -> Result<(), Trouble>
         ensures { Adds O.tells O.held O.fault_count sink.old sink.new self.old self.new (set_lines sets.now) result }
@@ -149,6 +160,20 @@ impl Page {
         }
         self.line(sink, &Line::Stream { stream, count })?;
         self.records(sink, sent)
+    }
+
+    /// A joined client, 0 to 63, and the messages that it was handed, in order.
+    pub fn client<O: Sink>(
+        &mut self,
+        sink: &mut O,
+        client: u64,
+        messages: &[Got],
+    ) -> Result<(), Trouble>
+        ensures { Adds O.tells O.held O.fault_count sink.old sink.new self.old self.new (client_text client messages.now) result }
+    {
+        let count = messages.len();
+        self.line(sink, &Line::Client { client, count })?;
+        self.handed(sink, messages)
     }
 
     /// A member whose disk is read: the entries of its log that aren't those of the printed one, and its valid snapshot

@@ -3,6 +3,7 @@ ghost use Rattle.sbe_events.specs.Spelling.{HasSpelling};
 
 use crate::{Made, MemberAt, Page, Reply, RunAt, put_order, put_stopped};
 use cl_base::{Bytes, Entry, MemSink, Trouble};
+use cluster_client::Got;
 use egress::Sent;
 use ingress::Outcome;
 use recording_log::SnapshotAt;
@@ -150,6 +151,34 @@ fn members_at_the_end(rt: HostRuntime) -> Result<(), Fail> {
     Ok(())
 }
 
+const HANDED: &str = "client 0 handed 2
+got 0 6869
+got 1 616761696e
+client 63 handed 0
+done
+";
+
+#[test]
+fn what_joined_clients_were_handed(rt: HostRuntime) -> Result<(), Fail> {
+    let a = rt.alloc();
+    let mut handed = Vec::new(a);
+    handed.push(Got {
+        term: 0,
+        payload: Bytes::of(a, b"hi")?,
+    })?;
+    handed.push(Got {
+        term: 1,
+        payload: Bytes::of(a, b"again")?,
+    })?;
+    let mut out = sink(a);
+    let mut page = Page::new(a);
+    page.client(&mut out, 0, handed.as_slice())?;
+    page.client(&mut out, 63, &[])?;
+    page.done(&mut out)?;
+    assert!(rt; out.held() == HANDED.as_bytes());
+    Ok(())
+}
+
 const OTHERS: &str = "log 4
 entry 0 1 service 0 1 ts 2140 e803
 entry 1 1 timer 7 ts 510
@@ -231,6 +260,7 @@ order 15 ok
 order 16 running
 order 17 damaged 2 31
 order 18 no snapshot
+order 19 not open
 stopped 4
 ";
 
@@ -265,6 +295,7 @@ fn each_answer_has_its_text(rt: HostRuntime) -> Result<(), Fail> {
     put_order(a, &mut out, 16, Reply::Running)?;
     put_order(a, &mut out, 17, Reply::Damaged { file: 2, place: 31 })?;
     put_order(a, &mut out, 18, Reply::NoSnapshot)?;
+    put_order(a, &mut out, 19, Reply::NotOpen)?;
     put_stopped(a, &mut out, 4)?;
     assert!(rt; out.held() == ORDERS.as_bytes());
     Ok(())
