@@ -58,11 +58,13 @@ impl<D: Disk> Mounted<D> {
     }
 
     /// Makes the latest valid snapshot set invalid. False where there is none. The disk comes back.
-    pub(crate) fn strike(self) -> (D, Result<bool, MemberFault>) {
+    pub(crate) fn strike(self) -> Result<(D, bool), (D, MemberFault)> {
         let Mounted { disk } = self;
         let mut disk = disk;
-        let struck = disk.invalidate();
-        (disk.into_disk(), struck)
+        match disk.invalidate() {
+            Ok(struck) => Ok((disk.into_disk(), struck)),
+            Err(fault) => Err((disk.into_disk(), fault)),
+        }
     }
 
     /// The disk, as it stands.

@@ -360,7 +360,7 @@ impl<D: Disk + Drop> Seat<D> {
 
     fn strike(&mut self, mounted: Mounted<D>) -> Result<Reply, NoMemory> {
         match mounted.strike() {
-            (disk, Ok(struck)) => {
+            Ok((disk, struck)) => {
                 self.home = Home::Down(disk);
                 Ok(if struck {
                     Reply::Fine
@@ -368,7 +368,7 @@ impl<D: Disk + Drop> Seat<D> {
                     Reply::NoSnapshot
                 })
             }
-            (disk, Err(fault)) => self.fall_back(disk, fault),
+            Err((disk, fault)) => self.fall_back(disk, fault),
         }
     }
 
