@@ -158,6 +158,11 @@ step_goes w (order.Lose line a b) = still (order.Lose line a b) w refl
 step_goes w (order.Replay line a b latest) = still (order.Replay line a b latest) w refl
 step_goes w (order.FreeOn line) = still (order.FreeOn line) w refl
 step_goes w (order.FreeOff line) = still (order.FreeOff line) w refl
+step_goes w (order.Join line client) = still (order.Join line client) w refl
+step_goes w (order.Offer line client text) = still (order.Offer line client text) w refl
+step_goes w (order.Backup line member) = still (order.Backup line member) w refl
+step_goes w (order.BackupOff line) = still (order.BackupOff line) w refl
+step_goes w (order.BackupLose line) = still (order.BackupLose line) w refl
 
 -- the front of the orders is run: what is left leads to the world that all lead to, and there are moments and lines for it
 pub record Stepped (orders : List Order) (i : ℕ) (first now : Run) : Type 0 where
