@@ -7,6 +7,3 @@ mod laws;
 
 pub use joined::{Joined, stream_of};
 pub use laws::what_a_joined_client_is_handed;
-
-#[cfg(test)]
-mod tests;
