@@ -90,29 +90,23 @@ fn spelled(alloc: Global, p: &Packet) -> Result<Bytes, NoMemory>
     let second = Field::I64(second_of(p));
     let member = Field::I32(member_of(p));
     match p {
-        Packet::Canvass { candidate_term, .. } => bare(
-            alloc,
-            50,
-            &[first, second, Field::I64(*candidate_term), member],
-        ),
-        Packet::RequestVote { candidate_term, .. } => bare(
-            alloc,
-            51,
-            &[first, second, Field::I64(*candidate_term), member],
-        ),
+        Packet::Canvass { candidate_term, .. } => {
+            let fields = [first, second, Field::I64(*candidate_term), member];
+            bare(alloc, 50, &fields)
+        }
+        Packet::RequestVote { candidate_term, .. } => {
+            let fields = [first, second, Field::I64(*candidate_term), member];
+            bare(alloc, 51, &fields)
+        }
         Packet::Vote {
             log_position,
             follower,
             vote,
             ..
         } => {
-            let position = Field::I64(*log_position);
-            let vote = Field::I32(*vote);
-            bare(
-                alloc,
-                52,
-                &[first, second, position, member, Field::I32(*follower), vote],
-            )
+            let (position, follower) = (Field::I64(*log_position), Field::I32(*follower));
+            let fields = [first, second, position, member, follower, Field::I32(*vote)];
+            bare(alloc, 52, &fields)
         }
         Packet::NewTerm {
             keep_term,
@@ -120,13 +114,9 @@ fn spelled(alloc: Global, p: &Packet) -> Result<Bytes, NoMemory>
             term,
             ..
         } => {
-            let keep = Field::I64(*keep_term);
-            let position = Field::I64(*keep_position);
-            bare(
-                alloc,
-                53,
-                &[first, second, keep, position, Field::I64(*term), member],
-            )
+            let (keep, position) = (Field::I64(*keep_term), Field::I64(*keep_position));
+            let fields = [first, second, keep, position, Field::I64(*term), member];
+            bare(alloc, 53, &fields)
         }
         Packet::Append { .. } => bare(alloc, 54, &[first, second, member]),
         Packet::Commit { .. } => bare(alloc, 55, &[first, second, member]),

@@ -1,6 +1,7 @@
 // The pieces of a snapshot.
-ghost use Rattle.std.specs.Prelude.{◌≡◌, ◌↔◌, ◌⊎◌, ◌≤◌, ◌++◌, ◌∷◌, List, [], ℕ, pos, Some, Ok, Err, IfOk, length};
+ghost use Rattle.std.specs.Prelude.{◌≡◌, ◌↔◌, ◌⊎◌, ◌<◌, ◌≤◌, ◌^◌, ◌++◌, ◌∷◌, List, [], ℕ, pos, Some, Ok, Err, IfOk, length};
 ghost use Rattle.wire_prims.specs.Fields.{u16_at, u32_at};
+ghost use Rattle.wire_prims.specs.Strict.{message, counted};
 ghost use Rattle.wire_prims.specs.declared.fault.Bad.{Bad};
 ghost use Rattle.wire_prims.specs.declared.fault.DecodeFault.{DecodeFault};
 ghost use Rattle.sbe_local.specs.Messages.{Decodes};
@@ -298,11 +299,7 @@ fn spell(alloc: Global, p: &Piece) -> Result<Bytes, NoMemory>
             position,
             term,
             mark,
-        } => bare(
-            alloc,
-            100,
-            &marker_fields(*service, *position, *term, *mark),
-        ),
+        } => marker_bytes(alloc, *service, *position, *term, *mark),
         Piece::Session {
             id,
             corr,
@@ -320,21 +317,12 @@ fn spell(alloc: Global, p: &Piece) -> Result<Bytes, NoMemory>
             actions,
             entries,
             leader,
-        } => bare(
-            alloc,
-            112,
-            &module_fields(*next_session, *actions, *entries, *leader),
-        ),
+        } => module_bytes(alloc, *next_session, *actions, *entries, *leader),
         Piece::Pending {
             number,
             service,
             payload,
-        } => with_counted(
-            alloc,
-            113,
-            &pending_fields(*number, *service),
-            payload.as_slice(),
-        ),
+        } => pending_bytes(alloc, *number, *service, payload.as_slice()),
         Piece::ServiceState { bytes } => with_counted(alloc, 114, &[], bytes.as_slice()),
         Piece::Counter {
             offered,
@@ -344,17 +332,24 @@ fn spell(alloc: Global, p: &Piece) -> Result<Bytes, NoMemory>
     }
 }
 
-fn marker_fields(service: i64, position: i64, term: i64, mark: Mark) -> [Field; 5]
-    ensures { result ≡ I64 service ∷ I64 position ∷ I64 term ∷ I32 (pos 0) ∷ I32 (mark_number mark) ∷ [] }
+fn marker_bytes(
+    alloc: Global,
+    service: i64,
+    position: i64,
+    term: i64,
+    mark: Mark,
+) -> Result<Bytes, NoMemory>
+    ensures { IfOk result (λ bytes. bytes ≡ message 100 (I64 service ∷ I64 position ∷ I64 term ∷ I32 (pos 0) ∷ I32 (mark_number mark) ∷ []) ++ []) }
 {
     let (first, second) = (Field::I64(service), Field::I64(position));
-    [
+    let fields = [
         first,
         second,
         Field::I64(term),
         Field::I32(0),
         mark_field(mark),
-    ]
+    ];
+    bare(alloc, 100, &fields)
 }
 
 fn session_fields(id: i64, corr: i64, stamp: i64, stream: i32, closing: bool) -> [Field; 5]
@@ -376,17 +371,29 @@ fn timer_fields(corr: i64, deadline: i64) -> [Field; 2]
     [Field::I64(corr), Field::I64(deadline)]
 }
 
-fn module_fields(next_session: i64, actions: i64, entries: i64, leader: i32) -> [Field; 4]
-    ensures { result ≡ I64 next_session ∷ I64 actions ∷ I64 entries ∷ I32 leader ∷ [] }
+fn module_bytes(
+    alloc: Global,
+    next_session: i64,
+    actions: i64,
+    entries: i64,
+    leader: i32,
+) -> Result<Bytes, NoMemory>
+    ensures { IfOk result (λ bytes. bytes ≡ message 112 (I64 next_session ∷ I64 actions ∷ I64 entries ∷ I32 leader ∷ []) ++ []) }
 {
     let (first, second) = (Field::I64(next_session), Field::I64(actions));
-    [first, second, Field::I64(entries), Field::I32(leader)]
+    bare(
+        alloc,
+        112,
+        &[first, second, Field::I64(entries), Field::I32(leader)],
+    )
 }
 
-fn pending_fields(number: i64, service: u8) -> [Field; 2]
-    ensures { result ≡ I64 number ∷ I32 (pos service) ∷ [] }
+fn pending_bytes(alloc: Global, number: i64, service: u8, payload: &[u8]) -> Result<Bytes, NoMemory>
+    requires { length payload.now < 2 ^ 32 }
+    ensures { IfOk result (λ bytes. bytes ≡ message 113 (I64 number ∷ I32 (pos service) ∷ []) ++ counted payload.now) }
 {
-    [Field::I64(number), Field::I32(service as i32)]
+    let fields = [Field::I64(number), Field::I32(service as i32)];
+    with_counted(alloc, 113, &fields, payload)
 }
 
 fn counter_fields(offered: i64, appended: i64, service: u8) -> [Field; 3]
