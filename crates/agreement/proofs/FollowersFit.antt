@@ -38,7 +38,7 @@ use Rattle.agreement.proofs.Opens.{prefix-trans, not-none}
 use Rattle.agreement.proofs.Second.{sent-fits, reign_of, is_leader_ready, Leading, MemberFits, PacketFits, Fits, Widens, PacketFits-widens, held_by-holds}
 use Rattle.agreement.proofs.Stills.{reign-stays, same-prefix}
 use Rattle.agreement.proofs.Calm.{calm, lifted, relogs, ready-reigns}
-use Rattle.agreement.proofs.Writes.{own, begins, from_anchor}
+use Rattle.agreement.proofs.Writes.{begins, from_anchor}
 use Rattle.agreement.proofs.Commits.{entries_to-short, entries_to-place, take-leads, max-either}
 use Rattle.agreement.proofs.Fronts.{settled-front, take-front, length-up}
 use Rattle.agreement.proofs.CutsKept.{open-kept, settled-kept, same_name-is}
