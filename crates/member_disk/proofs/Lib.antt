@@ -17,3 +17,4 @@ pub mod CutWells
 pub mod AppendParts
 pub mod TermRuns
 pub mod AppendMade
+mod NewDisk

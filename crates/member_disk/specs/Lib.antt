@@ -3,3 +3,5 @@ pub mod Parts
 pub mod Changes
 pub mod Struck
 pub mod CutWell
+pub mod Fresh
+pub mod Latest

@@ -2,7 +2,7 @@
 ghost use Rattle.std.specs.Prelude.{◌≡◌, ◌≢◌, ◌+◌, ◌<◌, ◌≤◌, ◌^◌, ◌++◌, ◌∷◌, [], ◌↔◌, ℕ, pos, ◌<ℤ◌, ◌≤ℤ◌, All, IsTrue, IsFalse, IfOk, IfErr, IfSome, OnOk, OnErr, Err, Some, length, take};
 ghost use Rattle.cl_base.specs.Faults.{HasDeviceCause};
 ghost use Rattle.cl_base.specs.Disk.{OthersStay, settled_file};
-ghost use Rattle.entry_log.specs.Log.{RisesFrom, last, place};
+ghost use Rattle.entry_log.specs.Log.{RisesFrom, last, place, place_from};
 ghost use Rattle.recording_log.specs.declared.entry.RecEntry.{RecEntry};
 ghost use Rattle.recording_log.specs.Sets.{HasNoSet, IsLatest, struck};
 ghost use Rattle.recording_log.specs.Listed.{IsThere};
@@ -79,6 +79,9 @@ impl Durable {
         ensures ok { OnOk result (IsAppended entries.now self.old self.new) }
         ensures err { OnErr result (HasMoreTerms self.old self.new) }
         ensures full { (place : ℕ) → result ≡ Err (MemberFault.LogFull place) → (self.new ≡ self.old) × (disk.new ≡ disk.old) × (16777216 < place) }
+        // LogFull comes exactly where the log would end past its last segment, and names that place.
+        ensures full_at { (at : ℕ) → result ≡ Err (MemberFault.LogFull at) → at ≡ place_from (place self.old.log) entries.now }
+        ensures fills { 16777216 < place_from (place self.old.log) entries.now → result ≡ Err (MemberFault.LogFull (place_from (place self.old.log) entries.now)) }
         ensures cause { HasAppendCause (D.fault_count disk.old) (D.fault_count disk.new) result }
         ensures tells { D.tells disk.new ≡ D.tells disk.old }
         ensures honest { D.is_honest disk.new ≡ D.is_honest disk.old }

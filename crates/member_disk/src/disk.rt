@@ -36,7 +36,7 @@ impl<D: Disk> MemberDisk<D> {
     ghost use Rattle.recording_log.specs.declared.entry.RecEntry.{RecEntry};
     ghost use Rattle.recording_log.specs.Sets.{HasNoSet, IsLatest, struck};
     ghost use Rattle.recording_log.specs.Listed.{IsThere};
-    ghost use Rattle.entry_log.specs.Log.{Log, RisesFrom, last, place};
+    ghost use Rattle.entry_log.specs.Log.{Log, RisesFrom, last, place, place_from};
     ghost use Rattle.entry_log.specs.Shape.{shape_of, entry_shape};
     ghost use Rattle.log_segment.specs.Batch.{IsBatchAt};
     ghost use Rattle.log_segment.specs.Held.{IsEventEntry, IsHeld, AreRanged, new_terms};
@@ -46,7 +46,8 @@ impl<D: Disk> MemberDisk<D> {
     ghost use Rattle.member_disk.specs.Parts.{IsMade, made, raise_part, put_part, append_parts, cut_parts, MountEnds};
     ghost use Rattle.member_disk.specs.Struck.{IsStruck, with_struck};
     ghost use Rattle.member_disk.specs.CutWell.{IsCutWell, no_file, file_of};
-    ghost use Rattle.node_state.specs.Node.{mount_calls};
+    ghost use Rattle.node_state.specs.Node.{IsVersionTwo, mount_calls};
+    ghost use Rattle.member_disk.specs.Latest.{IsLatestEntry};
     ghost use Rattle.member_disk.specs.Changes.{HaveTerms, IsAppended, entry_for, HasMoreTerms, IsHead, IsPut, IsMemberOf, HasSome, HasAppendCause};
 
     /// Reads what the files of a member with so many services stand for. A node state of version 1 is made one of version
@@ -63,6 +64,12 @@ impl<D: Disk> MemberDisk<D> {
         // It gives what the files stand for.
         ensures gives { IsTrue (D.tells disk) → IfOk result (λ m. ReadsLike m.kept (D.state disk).files) }
         ensures others { IsTrue (D.tells disk) → MatchResult result (λ m. OthersStay 0 (D.state disk).files (D.state m.disk).files) (λ e. OthersStay 0 (D.state disk).files (D.state e.0).files) }
+        // Where the node state is of version 2, it only looks: no changing call is made.
+        ensures looks { IsTrue (D.tells disk) → IsVersionTwo ((D.state disk).files 0).reads
+            → MatchResult result (λ m. Looks {T = Unit {0}} MemberFault.Device (D.state disk) (D.state m.disk) (Ok tt)) (λ e. Looks {T = Unit {0}} MemberFault.Device (D.state disk) (D.state e.0) (Err e.1)) }
+        ensures any_moment { IsTrue (D.is_honest disk) → IsVersionTwo ((D.state disk).files 0).reads
+            → MatchResult result (λ m. LeavesOnly D.moment D.left_since disk m.disk (IsImageOf (D.state disk).files)) (λ e. LeavesOnly D.moment D.left_since disk e.0 (IsImageOf (D.state disk).files)) }
+
         // It is the only one that they stand for.
         ensures once { IsTrue (D.tells disk) → (kept : Kept) → ReadsLike kept (D.state disk).files → IsHeld kept.log → kept.services ≡ services → IfOk result (λ m. m.kept ≡ kept) }
 
@@ -130,6 +137,9 @@ impl<D: Disk> MemberDisk<D> {
         ensures ok { OnOk result (IsAppended entries.now self.old.kept self.new.kept) }
         ensures err { OnErr result (HasMoreTerms self.old.kept self.new.kept) }
         ensures full { (place : ℕ) → result ≡ Err (MemberFault.LogFull place) → (self.new ≡ self.old) × (16777216 < place) }
+        // LogFull comes exactly where the log would end past its last segment, and names that place.
+        ensures full_at { (at : ℕ) → result ≡ Err (MemberFault.LogFull at) → at ≡ place_from (place self.old.kept.log) entries.now }
+        ensures fills { 16777216 < place_from (place self.old.kept.log) entries.now → result ≡ Err (MemberFault.LogFull (place_from (place self.old.kept.log) entries.now)) }
         ensures cause { HasAppendCause (D.fault_count self.old.disk) (D.fault_count self.new.disk) result }
         ensures tells { D.tells self.new.disk ≡ D.tells self.old.disk }
         ensures honest { D.is_honest self.new.disk ≡ D.is_honest self.old.disk }
@@ -271,6 +281,9 @@ impl<D: Disk> MemberDisk<D> {
         ensures low { IfOk result (λ e. pos 0 ≤ℤ e.term) }
         ensures high { IfOk result (λ e. e.term ≤ℤ pos (2 ^ 62)) }
         ensures placed { IfOk result (λ e. e.position ≤ 2 ^ 62) }
+        // It is what the entry says, and the pieces are those of the file that it names.
+        ensures latest { IfOk result (IsLatestEntry self.old.kept.services self.old.kept.entries service) }
+        ensures pieces { IsTrue (D.tells self.old.disk) → IfOk result (λ e. spelled e.pieces ≡ ((D.state self.old.disk).files (258 + e.recording)).reads) }
     {
         self.durable.set_entry(&mut self.disk, service)
     }

@@ -82,7 +82,7 @@ fn latest_part(
 }
 
 impl Durable {
-    ghost use Rattle.std.specs.Prelude.{◌≡◌, ◌<◌, ◌≤◌, ◌^◌, ◌++◌, ◌∷◌, ℕ, pos, ◌≤ℤ◌, IsTrue, IfOk, IfSome, length};
+    ghost use Rattle.std.specs.Prelude.{◌≡◌, ◌+◌, ◌<◌, ◌≤◌, ◌^◌, ◌++◌, ◌∷◌, ℕ, pos, ◌≤ℤ◌, IsTrue, IfOk, IfSome, length};
     ghost use Rattle.cl_base.specs.Faults.{HasMountCause};
     ghost use Rattle.cl_base.specs.Disk.{LeavesOnly, IsImageOf};
     ghost use Rattle.cl_base.specs.Looks.{Looks};
@@ -93,8 +93,9 @@ impl Durable {
     ghost use Rattle.entry_log.specs.Shape.{shape_of, entry_shape};
     ghost use Rattle.log_segment.specs.Held.{IsEventEntry, IsHeld, AreRanged};
     ghost use Rattle.log_segment.specs.Looked.{IsOnly};
-    ghost use Rattle.snapshot_store.specs.Snapshots.{ArePieces};
+    ghost use Rattle.snapshot_store.specs.Snapshots.{ArePieces, spelled};
     ghost use Rattle.member_disk.specs.Kept.{ReadsAs};
+    ghost use Rattle.member_disk.specs.Latest.{IsLatestEntry};
     ghost use Rattle.member_disk.specs.Changes.{IsMemberOf, HasSome, IsLatestPart};
 
     /// The candidate term, -1 to 2^62, where -1 is none.
@@ -172,6 +173,9 @@ impl Durable {
         ensures low { IfOk result (λ e. pos 0 ≤ℤ e.term) }
         ensures high { IfOk result (λ e. e.term ≤ℤ pos (2 ^ 62)) }
         ensures placed { IfOk result (λ e. e.position ≤ 2 ^ 62) }
+        // It is what the entry says, and the pieces are those of the file that it names.
+        ensures latest { IfOk result (IsLatestEntry self.now.services self.now.entries service) }
+        ensures pieces { IsTrue (D.tells disk.old) → IfOk result (λ e. spelled e.pieces ≡ ((D.state disk.old).files (258 + e.recording)).reads) }
     {
         let entry = latest_part(&self.recording, &self.sets, self.services, service);
         let part = entry.as_snapshot();

@@ -1,6 +1,7 @@
 // The disk of a new member.
-ghost use Rattle.std.specs.Prelude.{◌≡◌, [], ℕ, IsTrue, OnOk};
+ghost use Rattle.std.specs.Prelude.{◌≡◌, IsTrue, OnOk};
 ghost use Rattle.cl_base.specs.Faults.{HasDeviceCause};
+ghost use Rattle.member_disk.specs.Fresh.{AreEmpty, IsFresh};
 
 use cl_base::{Disk, MemberFault};
 use log_segment::format_log;
@@ -11,6 +12,7 @@ pub fn format<D: Disk>(disk: &mut D) -> Result<(), MemberFault>
     ensures cause { HasDeviceCause (D.fault_count disk.old) (D.fault_count disk.new) result }
     ensures tells { D.tells disk.new ≡ D.tells disk.old }
     ensures honest { D.is_honest disk.new ≡ D.is_honest disk.old }
+    ensures fresh { IsTrue (D.tells disk.old) → AreEmpty (D.state disk.old).files → OnOk result (IsFresh (D.state disk.new).files) }
 {
     match node_state::format(disk) {
         Ok(()) => match recording_log::format(disk) {

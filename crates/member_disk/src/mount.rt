@@ -8,7 +8,7 @@ ghost use Rattle.recording_log.specs.Listed.{AreSets};
 ghost use Rattle.log_segment.specs.Segment.{LogIs};
 ghost use Rattle.log_segment.specs.Held.{IsHeld, new_terms};
 ghost use Rattle.entry_log.specs.Log.{Log};
-ghost use Rattle.node_state.specs.Node.{mount_calls};
+ghost use Rattle.node_state.specs.Node.{IsVersionTwo, mount_calls};
 ghost use Rattle.member_disk.specs.Parts.{MountEnds};
 ghost use Rattle.member_disk.specs.Kept.{Kept, ReadsAs, ReadsLike, Means, EachStands, IsSettled};
 ghost use Rattle.member_disk.specs.Changes.{HaveTerms, HaveEach};
@@ -38,6 +38,10 @@ pub fn mount_files<D: Disk>(
     ensures gives { IsTrue (D.tells disk.old) → IfOk result (λ d. ReadsLike d (D.state disk.old).files) }
     ensures stands { IsTrue (D.tells disk.old) → IfOk result (λ d. ReadsAs d (D.state disk.new).files) }
     ensures others { IsTrue (D.tells disk.old) → OthersStay 0 (D.state disk.old).files (D.state disk.new).files }
+
+    // Where the node state is of version 2, it only looks: no changing call is made.
+    ensures looks { IsTrue (D.tells disk.old) → IsVersionTwo ((D.state disk.old).files 0).reads → Looks MemberFault.Device (D.state disk.old) (D.state disk.new) result }
+    ensures any_moment { IsTrue (D.is_honest disk.old) → IsVersionTwo ((D.state disk.old).files 0).reads → LeavesOnly D.moment D.left_since disk.old disk.new (IsImageOf (D.state disk.old).files) }
 
     // It is the only one that they stand for.
     ensures once { IsTrue (D.tells disk.old) → (kept : Kept) → ReadsLike kept (D.state disk.old).files → IsHeld kept.log → kept.services ≡ services → IfOk result (λ d. d ≡ kept) }

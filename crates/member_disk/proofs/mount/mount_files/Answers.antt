@@ -2,7 +2,7 @@
 use Rattle.std.proofs.Common.{◌+◌, Ok, Err, IsTrue, sym, subst, arith}
 use Rattle.cl_base.specs.Disk.{FileState, IsImageOf}
 use Rattle.cl_base.specs.Runs.{DiskLaws}
-use Rattle.cl_base.specs.Looks.{looks_ends}
+use Rattle.cl_base.specs.Looks.{looks_same, looks_after, looks_ends}
 use Rattle.cl_base.specs.Torn.{run_after, weaker}
 use Rattle.cl_base.specs.declared.fault.MemberFault.TheVariants.{Device}
 use Rattle.node_state.specs.Node.{Stays, mount_calls}
@@ -10,6 +10,7 @@ use Rattle.recording_log.specs.Entries.{Holds}
 use Rattle.member_disk.specs.Kept.{Kept, Means}
 use Rattle.member_disk.proofs.Standing.{log_stays, one_ne}
 use Rattle.member_disk.proofs.Mounts.{kept_once, settled_first, mounted_all, means_first, means_then, first_ended, second_ended}
+use Rattle.member_disk.proofs.Looking.{looks_ok, looks_err, look_more}
 use Rattle.member_disk.proofs.mount.mount_files.Given as given
 use Rattle.member_disk.proofs.mount.mount_files.Goals as goal
 
@@ -145,3 +146,39 @@ returns-in-Err-clause-fuse g c honest settled kept reads =
     let honest1 = subst IsTrue (sym c.mount.ensures.honest) honest in
     let single = settled_first laws d0 honest settled in
     first_ended laws d0 honest settled kept reads (Unit {0}) (Unit {0}) (mount_calls (s0.files 0).reads) s1 c.in-Err.fault (c.mount.ensures.others told) (c.in-Err.ensures.fuse honest single kept.node reads.node)
+
+pub returns-in-Ok-read_rest-clause-looks : goal.returns-in-Ok-read_rest-clause-looks
+returns-in-Ok-read_rest-clause-looks g c told two =
+    let s0 = g.D.Disk.state c.args.disk.now in
+    let s1 = g.D.Disk.state c.mount.new.disk in
+    let s2 = g.D.Disk.state c.read_rest.new.disk in
+    let told1 = subst IsTrue (sym c.mount.ensures.tells) told in
+    let same = looks_same Device s0 s1 _ (c.in-Ok.ensures.looks told two) (λ is. absurd (cc)) in
+    looks_after Device s0 s1 s2 _ same (looks_ok _ _ s1 s2 _ _ (c.in-Ok-read_rest.ensures.looks told1))
+
+pub returns-in-Err-read_rest-clause-looks : goal.returns-in-Err-read_rest-clause-looks
+returns-in-Err-read_rest-clause-looks g c told two =
+    let s0 = g.D.Disk.state c.args.disk.now in
+    let s1 = g.D.Disk.state c.mount.new.disk in
+    let s2 = g.D.Disk.state c.read_rest.new.disk in
+    let told1 = subst IsTrue (sym c.mount.ensures.tells) told in
+    let same = looks_same Device s0 s1 _ (c.in-Ok.ensures.looks told two) (λ is. absurd (cc)) in
+    looks_after Device s0 s1 s2 _ same (looks_err _ _ s1 s2 _ (c.in-Err-read_rest.ensures.looks told1))
+
+pub returns-in-Ok-read_rest-clause-any_moment : goal.returns-in-Ok-read_rest-clause-any_moment
+returns-in-Ok-read_rest-clause-any_moment g c honest two =
+    let d0 = c.args.disk.now in
+    let d1 = c.mount.new.disk in
+    let d2 = c.read_rest.new.disk in
+    let told = g.met.D.Disk.honest_tells d0 honest in
+    let honest1 = subst IsTrue (sym c.mount.ensures.honest) honest in
+    look_more g.D.Disk.state g.D.Disk.moment g.D.Disk.left_since d0 d1 d2 (c.mount.ensures.any_moment honest two) (c.mount.ensures.looks told two).files (c.read_rest.ensures.any_moment honest1)
+
+pub returns-in-Err-read_rest-clause-any_moment : goal.returns-in-Err-read_rest-clause-any_moment
+returns-in-Err-read_rest-clause-any_moment g c honest two =
+    let d0 = c.args.disk.now in
+    let d1 = c.mount.new.disk in
+    let d2 = c.read_rest.new.disk in
+    let told = g.met.D.Disk.honest_tells d0 honest in
+    let honest1 = subst IsTrue (sym c.mount.ensures.honest) honest in
+    look_more g.D.Disk.state g.D.Disk.moment g.D.Disk.left_since d0 d1 d2 (c.mount.ensures.any_moment honest two) (c.mount.ensures.looks told two).files (c.read_rest.ensures.any_moment honest1)

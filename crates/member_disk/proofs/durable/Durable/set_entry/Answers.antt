@@ -1,4 +1,8 @@
-use Rattle.std.proofs.Common.{pos, ◌^◌, ◌≤ℤ◌, subst}
+use Rattle.std.proofs.Common.{ℤ, pos, ◌^◌, ◌≤ℤ◌, rules, subst}
+use Rattle.std.specs.Int.{w32}
+use Rattle.std.proofs.lemmas.Int.{to_z-of_z}
+use Rattle.member_disk.specs.Kept.{Kept}
+use Rattle.member_disk.specs.Changes.{IsLatestPart}
 use Rattle.recording_log.specs.Ranges.{snapshot_position}
 use Rattle.member_disk.specs.declared.durable.SetEntry.{SetEntry}
 use Rattle.member_disk.proofs.Looking.{looks_ok, looks_err, below}
@@ -19,3 +23,15 @@ returns-in-Err-clause-looks g c told = looks_err _ SetEntry (g.D.Disk.state c.ar
 
 pub returns-in-Err-clause-stands : goal.returns-in-Err-clause-stands
 returns-in-Err-clause-stands g c told = after_look c.args.self.now (g.D.Disk.state c.args.disk.now).files (g.D.Disk.state c.read.new.disk).files (c.requires.stands told) (c.read.ensures.looks told).files
+
+pub returns-in-Ok-clause-latest : goal.returns-in-Ok-clause-latest
+returns-in-Ok-clause-latest g c =
+    let inside = subst (λ (s : ℤ). IsLatestPart c.self.inside.services c.self.inside.recording s c.latest_part-entry.result) (to_z-of_z w32 c.args.service c.ranges.service) c.latest_part-entry.ensures in
+    record {
+      entry = c.latest_part-entry.result;
+      latest = subst (λ (k : Kept). IsLatestPart k.services k.entries c.args.service c.latest_part-entry.result) c.self.view_is inside;
+      recording = c.as_snapshot-part.ensures.recording;
+      term = search rules;
+      position = c.as_snapshot-part.ensures.position;
+      stamp = search rules;
+    }
