@@ -1,1 +1,5 @@
+pub mod Asked
+pub mod AtIndex
 pub mod Numbers
+pub mod Over
+pub mod Rising

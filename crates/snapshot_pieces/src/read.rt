@@ -1,8 +1,12 @@
 // The pieces of a snapshot as they are read back.
-ghost use Rattle.std.specs.Prelude.{◌≡◌, ◌<◌, ◌≤◌, length, unwrap_or, Some, IfOk, IfErr, slice_get};
+ghost use Rattle.std.specs.Prelude.{◌≡◌, ◌<◌, ◌≤◌, ◌^◌, ℕ, List as ListOf, length, unwrap_or, Some, Ok, IfOk, IfErr, slice_get};
+ghost use Rattle.module_state.specs.Module.{Module};
+ghost use Rattle.module_state.specs.Restored.{restored};
+ghost use Rattle.service_api.specs.declared.shipped.Shipped.{Shipped as ShippedState};
+ghost use Rattle.service_api.specs.Shipped.{restored_of};
 ghost use Rattle.sbe_local.specs.Pieces.{piece_spelling_of};
 ghost use Rattle.service_container.specs.Held.{begun};
-ghost use Rattle.snapshot_pieces.specs.Pieces.{IsOrigin};
+ghost use Rattle.snapshot_pieces.specs.Pieces.{IsOrigin, between, service_pieces_of};
 ghost use Rattle.snapshot_pieces.specs.Restored.{IsModuleOf, IsServiceOf, NamesFile};
 
 use crate::source::{Source, piece_at, place_of};
@@ -21,8 +25,12 @@ const STATE_BYTES: u64 = 16;
 const MARKER: u16 = 100;
 
 /// The bytes of the state that the second piece has.
+#[tactic(auto, using(crate::proofs::Again::state_read))]
 fn state_at(alloc: Global, source: &Source, pieces: &[Bytes]) -> Result<Bytes, MemberFault>
     ensures state { IfOk result (λ b. slice_get pieces.now 1 ≡ Some (piece_spelling_of (Piece.ServiceState b))) }
+    // What was written there is read again, unless memory runs out.
+    ensures same { (b : ListOf ℕ) → length b < 2 ^ 31 → slice_get pieces.now 1 ≡ Some (piece_spelling_of (Piece.ServiceState b)) → IfOk result (λ v. v ≡ b) }
+    ensures undamaged { (b : ListOf ℕ) → length b < 2 ^ 31 → slice_get pieces.now 1 ≡ Some (piece_spelling_of (Piece.ServiceState b)) → IfErr result (λ e. e ≡ MemberFault.NoMemory) }
     ensures file { IfErr result (NamesFile source.now.file) }
 {
     let Some(piece) = piece_at(pieces, 1) else {
@@ -38,6 +46,7 @@ fn state_at(alloc: Global, source: &Source, pieces: &[Bytes]) -> Result<Bytes, M
 /// The service of this kind that its snapshot is of, which goes on behind the snapshot's entry. Damaged names the first
 /// wrong place of the file: a piece that isn't the one that must come, at its length field; one that is missing, at the
 /// file's end; bytes that the service refuses, at their first. The pieces are those of the file, each of its form.
+#[tactic(auto, using(crate::proofs::Again::first_is, crate::proofs::Again::second_is, crate::proofs::Again::third_is, crate::proofs::Again::three_are))]
 pub fn restore_service(
     alloc: Global,
     kind: Kind,
@@ -48,6 +57,9 @@ pub fn restore_service(
     requires { IsOrigin source.now.origin }
     ensures begun { IfOk result (λ c. c ≡ begun service (unwrap_or source.now.entries 0) c.state) }
     ensures restored { IfOk result (λ c. IsServiceOf kind source.now.origin pieces.now c.state) }
+    // What was written of a service is read again as the state that its records restore, unless memory runs out.
+    ensures same { (records : ListOf ℕ) (s : ShippedState) → length records < 2 ^ 31 → pieces.now ≡ service_pieces_of source.now.origin records → restored_of kind records ≡ Ok s → IfOk result (λ c. c.state ≡ s) }
+    ensures undamaged { (records : ListOf ℕ) (s : ShippedState) → length records < 2 ^ 31 → pieces.now ≡ service_pieces_of source.now.origin records → restored_of kind records ≡ Ok s → IfErr result (λ e. e ≡ MemberFault.NoMemory) }
     ensures file { IfErr result (NamesFile source.now.file) }
 {
     source.expect_marker(alloc, Mark::Begin, pieces, 0)?;
@@ -105,6 +117,8 @@ pub fn restore_module(
     requires origin { IsOrigin source.now.origin }
     requires services { services ≤ 3 }
     ensures restored { IfOk result (λ m. IsModuleOf services source.now.origin pieces.now m) }
+    // What was written of the module is read again as the state that its records restore.
+    ensures same { (records : ListOf (ListOf ℕ)) (m : Module) → pieces.now ≡ between source.now.origin records → restored services records ≡ Ok m → IfOk result (λ n. n ≡ m) }
     ensures file { IfErr result (NamesFile source.now.file) }
 {
     source.expect_marker(alloc, Mark::Begin, pieces, 0)?;
