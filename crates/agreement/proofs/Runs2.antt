@@ -27,7 +27,8 @@ use Rattle.agreement.proofs.Second.{reign_of, MemberFits, PacketFits, Fits, Wide
 use Rattle.agreement.proofs.Stills.{still}
 use Rattle.agreement.proofs.Calm.{before-fits}
 use Rattle.agreement.proofs.Snaps2.{set-commit, puts-fits, invalidates-fits}
-use Rattle.agreement.proofs.Rows2.{does_duty-two, receives-two, client-row-two, committed-kept}
+use Rattle.agreement.proofs.RowsFit.{does_duty-two, receives-two, client-row-two}
+use Rattle.agreement.proofs.CutsKept.{committed-kept}
 
 does-fits : (n : ℕ) (w : World) (m : ℕ) (due : List Event) (cut : Cut) → Inv n w → Fits n w → Fits n (does w m due cut)
 does-fits n w m due cut i f =

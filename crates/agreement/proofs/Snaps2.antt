@@ -25,7 +25,7 @@ use Rattle.agreement.proofs.Second.{reign_of, Fits, SnapsFit}
 use Rattle.agreement.proofs.Stills.{still}
 use Rattle.agreement.proofs.Calm.{before-fits, settled-none, term_now}
 use Rattle.agreement.proofs.Commits.{entries_to-short, entries_to-place, take-leads}
-use Rattle.agreement.proofs.Rows2.{settled-front}
+use Rattle.agreement.proofs.Fronts.{settled-front}
 
 pub cons-cases : {X : Type 0} (a x : X) (xs : List X) → Contains (a ∷ xs) x → (a ≡ x) ⊎ Contains xs x
 cons-cases a x xs has = elim (Contains-append_cases (a ∷ []) xs x has) [ inl h ↦ inl (only_in a x h) | inr h ↦ inr h ]

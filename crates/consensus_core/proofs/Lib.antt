@@ -4,4 +4,5 @@ pub mod Fitting
 pub mod OverLog
 pub mod Spoken
 pub mod Speech
+pub mod Appending
 pub mod Standing

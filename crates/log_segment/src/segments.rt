@@ -1,7 +1,7 @@
 // The log in a member's segment files.
-ghost use Rattle.std.specs.Prelude.{◌≡◌, ◌≢◌, ◌+◌, ◌-◌, ◌/◌, ◌%◌, ◌==◌, ◌<◌, ◌≤◌, ◌≤ℤ◌, ◌++◌, [], ◌∷◌, ◌⊎◌, ℕ, if◌then◌else◌, IsTrue, IfOk, IfErr, OnOk, OnErr, All, length, take};
+ghost use Rattle.std.specs.Prelude.{◌≡◌, ◌≢◌, ◌+◌, ◌-◌, ◌/◌, ◌%◌, ◌==◌, ◌<◌, ◌≤◌, ◌≤ℤ◌, ◌++◌, [], ◌∷◌, ◌⊎◌, ℕ, if◌then◌else◌, IsTrue, IfOk, IfErr, OnOk, OnErr, Err, All, length, take};
 ghost use Rattle.cl_base.specs.Faults.{HasDeviceCause};
-ghost use Rattle.cl_base.specs.Disk.{LeavesOnly, OthersStay};
+ghost use Rattle.cl_base.specs.Disk.{LeavesOnly, OthersStay, settled_file};
 ghost use Rattle.cl_base.specs.Fuse.{FuseEnds};
 ghost use Rattle.cl_base.specs.Runs.{EachImage};
 ghost use Rattle.cl_base.specs.declared.entry.Entry.{Entry};
@@ -98,6 +98,7 @@ impl Segments {
         ensures ok { IfOk result (IsSpelled (place self.now) entries.now) }
         ensures room { IfOk result (λ _. place_from (place self.now) entries.now ≤ 16777216) }
         ensures err { IfErr result (λ e. (e ≡ MemberFault.NoMemory) ⊎ ((e ≡ MemberFault.LogFull (place_from (place self.now) entries.now)) × (16777216 < place_from (place self.now) entries.now))) }
+        ensures full { 16777216 < place_from (place self.now) entries.now → result ≡ Err (MemberFault.LogFull (place_from (place self.now) entries.now)) }
     {
         let place = self.log.place();
         let end = end_with(place, entries);
@@ -225,6 +226,7 @@ pub fn format_log<D: Disk>(disk: &mut D) -> Result<(), MemberFault>
     ensures honest { D.is_honest disk.new ≡ D.is_honest disk.old }
     ensures others { IsTrue (D.tells disk.old) → OthersStay 2 (D.state disk.old).files (D.state disk.new).files }
     ensures done { IsTrue (D.tells disk.old) → OnOk result (EachImage (LogIs []) (D.state disk.new).files) }
+    ensures settled { IsTrue (D.tells disk.old) → OnOk result ((D.state disk.new).files 2 ≡ settled_file ((D.state disk.new).files 2).reads) }
 {
     match cl_base::write_through(disk, FIRST_SEGMENT_FILE, 0, &[0; 32]) {
         Ok(()) => Ok(()),

@@ -1,10 +1,10 @@
 -- The file of a new member.
-use Rattle.std.proofs.Common.{◌≡◌, ℕ, ◌+◌, List, [], ◌∷◌, ◌++◌, length, refl, sym, ◌∙◌, ap, arith}
+use Rattle.std.proofs.Common.{◌≡◌, ℕ, ◌+◌, List, [], ◌∷◌, ◌++◌, length, refl, ◌∙◌, ap, arith}
 use Rattle.std.proofs.lemmas.Int.{ints}
 use Rattle.std.proofs.lemmas.List.{append-nil, drop_all}
 use Rattle.cl_base.specs.Disk.{FileState, settled_file, overwritten}
 use Rattle.node_state.specs.Fields.{u64_at, u32_at}
-use Rattle.node_state.specs.Node.{Node, Tells, fresh, IsFresh}
+use Rattle.node_state.specs.Node.{Tells, fresh, IsFresh}
 
 abbrev pub fresh_bytes : List ℕ
 fresh_bytes =

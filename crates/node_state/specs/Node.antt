@@ -74,6 +74,10 @@ AllStand node was files = EveryImage 0 (Means node) was files
 abbrev pub IsSettled : (ℕ → FileState) → Type 0
 IsSettled files = (c : List ℕ) → IsImage (files 0) c → c ≡ (files 0).reads
 
+-- the file is of version 2
+abbrev pub IsVersionTwo : List ℕ → Type 0
+IsVersionTwo bytes = slice_index bytes 17 ≡ 2
+
 -- the changing calls of a mount: none where the file is of version 2
 abbrev pub mount_calls : List ℕ → ℕ
 mount_calls bytes = if slice_index bytes 17 == 2 then 0 else 4

@@ -6,7 +6,7 @@ ghost use Rattle.cl_base.specs.Fuse.{FuseEnds};
 ghost use Rattle.cl_base.specs.Looks.{Looks, Same};
 ghost use Rattle.cl_base.specs.Faults.{HasMountCause};
 ghost use Rattle.cl_base.specs.declared.disk.Choice.{Choice};
-ghost use Rattle.node_state.specs.Node.{Node, Tells, BeforeOrAfter, names_slot, member_of, StandsFor, IsWrongAt, IsTerm, AllOld, AllStand, IsSettled, Stays, LeavesNode, mount_calls, migrated};
+ghost use Rattle.node_state.specs.Node.{Node, Tells, BeforeOrAfter, names_slot, member_of, StandsFor, IsWrongAt, IsTerm, AllOld, AllStand, IsSettled, IsVersionTwo, Stays, LeavesNode, mount_calls, migrated};
 ghost use Rattle.node_state.specs.Fields.{u32_at};
 ghost use Rattle.node_state.specs.Steps.{AllTell, EachTells, IsReady, IsRaise, RaiseLeft, staged, selected};
 
@@ -129,6 +129,10 @@ impl NodeState {
             → (node : Node) → StandsFor ((D.state disk.old).files 0).reads node
             → AllStand node (D.state disk.old).files (D.state disk.new).files
             × LeavesOnly D.moment D.left_since disk.old disk.new (Stays (D.state disk.old).files node) }
+
+        // A file of version 2 is only looked at: no changing call is made.
+        ensures looks { IsTrue (D.tells disk.old) → IsVersionTwo ((D.state disk.old).files 0).reads → Looks MemberFault.Device (D.state disk.old) (D.state disk.new) result }
+        ensures any_moment { IsTrue (D.is_honest disk.old) → IsVersionTwo ((D.state disk.old).files 0).reads → LeavesOnly D.moment D.left_since disk.old disk.new (IsImageOf (D.state disk.old).files) }
 
         // A file of version 2 takes no changing call, one of version 1 takes four. Where a fuse ends them each choice
         // leaves what stands for the same.

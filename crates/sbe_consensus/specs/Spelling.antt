@@ -80,6 +80,36 @@ fields_of (Commit term position leader) = I64 term ∷ I64 position ∷ I32 lead
 fields_of (NewTerm asked_term asked_position keep_term keep_position term leader) = I64 asked_term ∷ I64 asked_position ∷ I64 keep_term ∷ I64 keep_position ∷ I64 term ∷ I32 leader ∷ []
 fields_of (LogBatch term start_position leader entries) = I64 term ∷ I64 start_position ∷ I32 leader ∷ I32 (pos (length entries)) ∷ []
 
+-- the first number of the block
+abbrev pub first_of : Packet → ℤ
+first_of (Canvass log_term log_position candidate_term member) = log_term
+first_of (RequestVote log_term log_position candidate_term candidate) = log_term
+first_of (Vote candidate_term log_term log_position candidate follower vote) = candidate_term
+first_of (Append term position member) = term
+first_of (Commit term position leader) = term
+first_of (NewTerm asked_term asked_position keep_term keep_position term leader) = asked_term
+first_of (LogBatch term start_position leader entries) = term
+
+-- the second number of the block
+abbrev pub second_of : Packet → ℤ
+second_of (Canvass log_term log_position candidate_term member) = log_position
+second_of (RequestVote log_term log_position candidate_term candidate) = log_position
+second_of (Vote candidate_term log_term log_position candidate follower vote) = log_term
+second_of (Append term position member) = position
+second_of (Commit term position leader) = position
+second_of (NewTerm asked_term asked_position keep_term keep_position term leader) = asked_position
+second_of (LogBatch term start_position leader entries) = start_position
+
+-- the first member that a packet names
+abbrev pub member_of : Packet → ℤ
+member_of (Canvass log_term log_position candidate_term member) = member
+member_of (RequestVote log_term log_position candidate_term candidate) = candidate
+member_of (Vote candidate_term log_term log_position candidate follower vote) = candidate
+member_of (Append term position member) = member
+member_of (Commit term position leader) = leader
+member_of (NewTerm asked_term asked_position keep_term keep_position term leader) = leader
+member_of (LogBatch term start_position leader entries) = leader
+
 -- entries, each event with its length before it
 abbrev pub entries_bytes : List Entry → List ℕ
 entries_bytes [] = []

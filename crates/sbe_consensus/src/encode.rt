@@ -1,22 +1,13 @@
 // Bytes from packets.
-ghost use Rattle.std.specs.Prelude.{◌≡◌, ◌<◌, ◌≤◌, ◌^◌, ◌++◌, List, [], ℕ, Some, OnOk, IfOk, length};
+ghost use Rattle.std.specs.Prelude.{◌≡◌, ◌<◌, ◌^◌, ◌++◌, List, [], ℕ, Some, OnOk, IfOk};
 ghost use Rattle.wire_prims.specs.Strict.{block_size, message};
-ghost use Rattle.sbe_consensus.specs.Spelling.{HasSpelling, AreEntries, spelling_of, packet_of, entries_bytes};
+ghost use Rattle.sbe_consensus.specs.Spelling.{HasSpelling, AreEntries, spelling_of, packet_of, entries_bytes, first_of, second_of, member_of};
 ghost use Rattle.sbe_consensus.specs.declared.packet.Packet.{Packet};
 
 use crate::packet::Packet;
 use cl_base::{Bytes, Entry, NoMemory};
 use std::alloc::Global;
-use wire_prims::{Field, message_of, put_counted};
-
-/// A packet with nothing behind its block.
-fn bare(alloc: Global, template: u16, fields: &[Field]) -> Result<Bytes, NoMemory>
-    requires { block_size fields.now < 2 ^ 16 }
-    ensures { IfOk result (λ b. b ≡ message template fields.now ++ []) }
-{
-    let out = message_of(alloc, template, fields)?;
-    Ok(Bytes::from_vec(out))
-}
+use wire_prims::{Field, bare, message_of, put_counted};
 
 fn put_entries(out: &mut Vec<u8>, entries: &[Entry]) -> Result<(), NoMemory>
     requires { AreEntries entries.now }
@@ -52,119 +43,86 @@ pub fn encode_packet(alloc: Global, p: &Packet) -> Result<Bytes, NoMemory>
     spelled(alloc, p)
 }
 
+/// The first number of a packet's block.
+fn first_of(p: &Packet) -> i64
+    ensures { result ≡ first_of p.now }
+{
+    match p {
+        Packet::Canvass { log_term, .. } | Packet::RequestVote { log_term, .. } => *log_term,
+        Packet::Vote { candidate_term, .. } => *candidate_term,
+        Packet::NewTerm { asked_term, .. } => *asked_term,
+        Packet::Append { term, .. } | Packet::Commit { term, .. } => *term,
+        Packet::LogBatch { term, .. } => *term,
+    }
+}
+
+/// The second number of a packet's block.
+fn second_of(p: &Packet) -> i64
+    ensures { result ≡ second_of p.now }
+{
+    match p {
+        Packet::Canvass { log_position, .. } => *log_position,
+        Packet::RequestVote { log_position, .. } => *log_position,
+        Packet::Vote { log_term, .. } => *log_term,
+        Packet::NewTerm { asked_position, .. } => *asked_position,
+        Packet::Append { position, .. } | Packet::Commit { position, .. } => *position,
+        Packet::LogBatch { start_position, .. } => *start_position,
+    }
+}
+
+/// The first member that a packet names.
+fn member_of(p: &Packet) -> i32
+    ensures { result ≡ member_of p.now }
+{
+    match p {
+        Packet::Canvass { member, .. } | Packet::Append { member, .. } => *member,
+        Packet::RequestVote { candidate, .. } | Packet::Vote { candidate, .. } => *candidate,
+        Packet::NewTerm { leader, .. } | Packet::Commit { leader, .. } => *leader,
+        Packet::LogBatch { leader, .. } => *leader,
+    }
+}
+
 fn spelled(alloc: Global, p: &Packet) -> Result<Bytes, NoMemory>
     requires { HasSpelling p.now }
     ensures { IfOk result (λ b. b ≡ spelling_of p.now) }
 {
+    let first = Field::I64(first_of(p));
+    let second = Field::I64(second_of(p));
+    let member = Field::I32(member_of(p));
     match p {
-        Packet::Canvass {
-            log_term,
-            log_position,
-            candidate_term,
-            member,
-        } => bare(
-            alloc,
-            50,
-            &[
-                Field::I64(*log_term),
-                Field::I64(*log_position),
-                Field::I64(*candidate_term),
-                Field::I32(*member),
-            ],
-        ),
-        Packet::RequestVote {
-            log_term,
-            log_position,
-            candidate_term,
-            candidate,
-        } => bare(
-            alloc,
-            51,
-            &[
-                Field::I64(*log_term),
-                Field::I64(*log_position),
-                Field::I64(*candidate_term),
-                Field::I32(*candidate),
-            ],
-        ),
+        Packet::Canvass { candidate_term, .. } => {
+            let fields = [first, second, Field::I64(*candidate_term), member];
+            bare(alloc, 50, &fields)
+        }
+        Packet::RequestVote { candidate_term, .. } => {
+            let fields = [first, second, Field::I64(*candidate_term), member];
+            bare(alloc, 51, &fields)
+        }
         Packet::Vote {
-            candidate_term,
-            log_term,
             log_position,
-            candidate,
             follower,
             vote,
-        } => bare(
-            alloc,
-            52,
-            &[
-                Field::I64(*candidate_term),
-                Field::I64(*log_term),
-                Field::I64(*log_position),
-                Field::I32(*candidate),
-                Field::I32(*follower),
-                Field::I32(*vote),
-            ],
-        ),
+            ..
+        } => {
+            let (position, follower) = (Field::I64(*log_position), Field::I32(*follower));
+            let fields = [first, second, position, member, follower, Field::I32(*vote)];
+            bare(alloc, 52, &fields)
+        }
         Packet::NewTerm {
-            asked_term,
-            asked_position,
             keep_term,
             keep_position,
             term,
-            leader,
-        } => bare(
-            alloc,
-            53,
-            &[
-                Field::I64(*asked_term),
-                Field::I64(*asked_position),
-                Field::I64(*keep_term),
-                Field::I64(*keep_position),
-                Field::I64(*term),
-                Field::I32(*leader),
-            ],
-        ),
-        Packet::Append {
-            term,
-            position,
-            member,
-        } => bare(
-            alloc,
-            54,
-            &[
-                Field::I64(*term),
-                Field::I64(*position),
-                Field::I32(*member),
-            ],
-        ),
-        Packet::Commit {
-            term,
-            position,
-            leader,
-        } => bare(
-            alloc,
-            55,
-            &[
-                Field::I64(*term),
-                Field::I64(*position),
-                Field::I32(*leader),
-            ],
-        ),
-        Packet::LogBatch {
-            term,
-            start_position,
-            leader,
-            entries,
-        } => batch(
-            alloc,
-            &[
-                Field::I64(*term),
-                Field::I64(*start_position),
-                Field::I32(*leader),
-                Field::I32(entries.len() as i32),
-            ],
-            entries.as_slice(),
-        ),
+            ..
+        } => {
+            let (keep, position) = (Field::I64(*keep_term), Field::I64(*keep_position));
+            let fields = [first, second, keep, position, Field::I64(*term), member];
+            bare(alloc, 53, &fields)
+        }
+        Packet::Append { .. } => bare(alloc, 54, &[first, second, member]),
+        Packet::Commit { .. } => bare(alloc, 55, &[first, second, member]),
+        Packet::LogBatch { entries, .. } => {
+            let count = Field::I32(entries.len() as i32);
+            batch(alloc, &[first, second, member, count], entries.as_slice())
+        }
     }
 }

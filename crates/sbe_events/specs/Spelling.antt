@@ -81,6 +81,26 @@ term_of (Timer term corr stamp) = term
 term_of (Closed term session stamp reason) = term
 term_of (Snapshot term position stamp) = term
 
+-- when an event came, in ms
+abbrev pub stamp_of : Event → ℤ
+stamp_of (Term term position stamp base leader) = stamp
+stamp_of (Opened term corr session stamp stream channel) = stamp
+stamp_of (Message term session stamp payload) = stamp
+stamp_of (ServiceMessage term service number stamp payload) = stamp
+stamp_of (Timer term corr stamp) = stamp
+stamp_of (Closed term session stamp reason) = stamp
+stamp_of (Snapshot term position stamp) = stamp
+
+-- the number behind an event's term: its place, the name that a client or a service gave, or its sender
+abbrev pub subject_of : Event → ℤ
+subject_of (Term term position stamp base leader) = position
+subject_of (Opened term corr session stamp stream channel) = corr
+subject_of (Message term session stamp payload) = session
+subject_of (ServiceMessage term service number stamp payload) = service_session service number
+subject_of (Timer term corr stamp) = corr
+subject_of (Closed term session stamp reason) = session
+subject_of (Snapshot term position stamp) = position
+
 -- the event is a client's message or a service's
 abbrev pub IsMessage : Event → Type 0
 IsMessage e = template_for e ≡ templates.Message

@@ -2,7 +2,7 @@
 ghost use Rattle.std.specs.Prelude.{◌≡◌, ◌⊎◌, ◌+◌, ◌-◌, ◌≤◌, ◌↔◌, ℕ, List, length, IfOk, IfErr, IsSome, IsTrue, pos, ◌≤ℤ◌};
 ghost use Rattle.cl_base.specs.declared.fault.NoMemory.{NoMemory};
 ghost use Rattle.wire_prims.specs.Fields.{u32_at, i32_at, i64_at};
-ghost use Rattle.wire_prims.specs.Strict.{is_service_session, service_of, number_of};
+ghost use Rattle.wire_prims.specs.Strict.{is_service_session};
 ghost use Rattle.wire_prims.specs.declared.fault.Bad.{Bad};
 ghost use Rattle.wire_prims.specs.declared.fault.DecodeFault.{DecodeFault};
 ghost use Rattle.sbe_events.specs.Spelling.{HasSpelling, spelling_of, first_fault, value_of, event_of, term_of as term_in};
@@ -15,7 +15,7 @@ use crate::template::Template;
 use cl_base::{Bytes, NoMemory};
 use std::alloc::Global;
 use wire_prims::{
-    Bad, BadCause, DecodeFault, get_i32, get_i64, get_u32, read_header, strict_fault,
+    Bad, BadCause, DecodeFault, get_i32, get_i64, get_u32, read_header, sender_of, strict_fault,
 };
 
 /// The template of bytes that spell an event, or what is first wrong with them.
@@ -72,16 +72,6 @@ fn message_at(alloc: Global, bytes: &[u8]) -> Result<Event, NoMemory>
         stamp,
         payload,
     })
-}
-
-/// The service and the number that a service message's session names.
-fn sender_of(session: i64) -> (u8, i64)
-    requires { IsTrue (is_service_session session) }
-    ensures service { result.0 ≡ service_of session }
-    ensures number { result.1 ≡ number_of session }
-{
-    let n = (-1 - session).cast_unsigned();
-    ((n >> 48) as u8, (n % (1 << 48)) as i64)
 }
 
 fn opened_at(alloc: Global, bytes: &[u8]) -> Result<Event, NoMemory>

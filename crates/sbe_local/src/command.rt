@@ -1,19 +1,21 @@
 // What a service asks of the module.
-ghost use Rattle.std.specs.Prelude.{◌≡◌, ◌↔◌, ◌⊎◌, ◌≤◌, ◌<◌, ◌^◌, ◌++◌, List, [], ℕ, pos, ◌≤ℤ◌, Some, Ok, Err, IfOk, length};
+ghost use Rattle.std.specs.Prelude.{◌≡◌, ◌↔◌, ◌⊎◌, ◌≤◌, ◌<◌, ◌^◌, ◌++◌, List, [], ℕ, pos, Some, Ok, Err, IfOk, length};
 ghost use Rattle.wire_prims.specs.Fields.{u16_at};
-ghost use Rattle.wire_prims.specs.Strict.{service_session, message, block_size};
+ghost use Rattle.wire_prims.specs.Strict.{message, block_size};
 ghost use Rattle.wire_prims.specs.declared.fault.Bad.{Bad};
 ghost use Rattle.wire_prims.specs.declared.fault.DecodeFault.{DecodeFault};
 ghost use Rattle.sbe_local.specs.Messages.{Decodes};
 ghost use Rattle.sbe_local.specs.Commands.{HasCommandSpelling, command_spelling_of, command_fault, first_fault_command, command_value, IsOffer};
 ghost use Rattle.sbe_local.specs.declared.command.Command.{Command};
 
-use crate::strict::{NUMBER, SERVICE, sender_of, strict};
-use crate::write::{bare, with_rest};
+use crate::strict::{NUMBER, SERVICE, strict};
 use cl_base::limits::PAYLOAD_LIMIT;
 use cl_base::{Bytes, NoMemory};
 use std::alloc::Global;
-use wire_prims::{Bad, BadCause, DecodeFault, Field, Rule, Tail, get_i32, get_i64, read_header};
+use wire_prims::{
+    Bad, BadCause, DecodeFault, Field, Rule, Tail, bare, get_i32, get_i64, read_header, sender_of,
+    session_of, with_rest,
+};
 
 /// One output of a service that asks something of the module.
 #[derive(Debug, Drop)]
@@ -181,14 +183,4 @@ fn spell(alloc: Global, c: &Command) -> Result<Bytes, NoMemory>
             bare(alloc, 33, &[Field::I64(*position), Field::I32(*service)])
         }
     }
-}
-
-/// The session under which a service's message stands in the log.
-fn session_of(service: u8, number: i64) -> i64
-    requires service { service ≤ 2 }
-    requires low { pos 1 ≤ℤ number }
-    requires high { number ≤ℤ pos (2 ^ 47) }
-    ensures { result ≡ service_session service number }
-{
-    -1 - ((service as i64) * (1 << 48) + number)
 }

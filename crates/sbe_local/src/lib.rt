@@ -4,7 +4,6 @@
 mod command;
 mod piece;
 mod strict;
-mod write;
 
 pub use command::{Command, decode_command, encode_command};
 pub use piece::{Mark, Piece, decode_piece, encode_piece};

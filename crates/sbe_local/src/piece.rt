@@ -1,19 +1,22 @@
 // The pieces of a snapshot.
-ghost use Rattle.std.specs.Prelude.{◌≡◌, ◌↔◌, ◌⊎◌, ◌≤◌, ◌++◌, List, [], ℕ, Some, Ok, Err, IfOk, length};
+ghost use Rattle.std.specs.Prelude.{◌≡◌, ◌↔◌, ◌⊎◌, ◌<◌, ◌≤◌, ◌^◌, ◌++◌, ◌∷◌, List, [], ℕ, pos, Some, Ok, Err, IfOk, length};
 ghost use Rattle.wire_prims.specs.Fields.{u16_at, u32_at};
+ghost use Rattle.wire_prims.specs.Strict.{message, counted};
 ghost use Rattle.wire_prims.specs.declared.fault.Bad.{Bad};
 ghost use Rattle.wire_prims.specs.declared.fault.DecodeFault.{DecodeFault};
 ghost use Rattle.sbe_local.specs.Messages.{Decodes};
 ghost use Rattle.sbe_local.specs.Pieces.{HasPieceSpelling, piece_spelling_of, piece_fault, first_fault_piece, piece_value, mark_of, mark_number, flag_number};
-ghost use Rattle.wire_prims.specs.declared.strict.Field.TheVariants.{I32};
+ghost use Rattle.wire_prims.specs.declared.strict.Field.TheVariants.{I64, I32};
 ghost use Rattle.sbe_local.specs.declared.piece.Piece.{Piece};
 
 use crate::strict::{MESSAGES, NUMBER, SERVICE, counted_at, strict};
-use crate::write::{bare, with_counted};
 use cl_base::limits::{CHANNEL_LIMIT, NUMBER_LIMIT, PAYLOAD_LIMIT};
 use cl_base::{Bytes, NoMemory};
 use std::alloc::Global;
-use wire_prims::{Bad, BadCause, DecodeFault, Field, Rule, Tail, get_i32, get_i64, read_header};
+use wire_prims::{
+    Bad, BadCause, DecodeFault, Field, Rule, Tail, bare, get_i32, get_i64, read_header,
+    with_counted,
+};
 
 /// Which end of a snapshot a marker stands at.
 #[derive(Clone, Copy, Debug, PartialEq, Eq)]
@@ -296,17 +299,7 @@ fn spell(alloc: Global, p: &Piece) -> Result<Bytes, NoMemory>
             position,
             term,
             mark,
-        } => {
-            let (first, second) = (Field::I64(*service), Field::I64(*position));
-            let fields = [
-                first,
-                second,
-                Field::I64(*term),
-                Field::I32(0),
-                mark_field(*mark),
-            ];
-            bare(alloc, 100, &fields)
-        }
+        } => marker_bytes(alloc, *service, *position, *term, *mark),
         Piece::Session {
             id,
             corr,
@@ -315,47 +308,102 @@ fn spell(alloc: Global, p: &Piece) -> Result<Bytes, NoMemory>
             closing,
             channel,
         } => {
-            let (first, second) = (Field::I64(*id), Field::I64(*corr));
-            let fields = [
-                first,
-                second,
-                Field::I64(*stamp),
-                Field::I32(*stream),
-                flag_field(*closing),
-            ];
+            let fields = session_fields(*id, *corr, *stamp, *stream, *closing);
             with_counted(alloc, 110, &fields, channel.as_slice())
         }
-        Piece::Timer { corr, deadline } => {
-            bare(alloc, 111, &[Field::I64(*corr), Field::I64(*deadline)])
-        }
+        Piece::Timer { corr, deadline } => bare(alloc, 111, &timer_fields(*corr, *deadline)),
         Piece::Module {
             next_session,
             actions,
             entries,
             leader,
-        } => {
-            let (first, second) = (Field::I64(*next_session), Field::I64(*actions));
-            let fields = [first, second, Field::I64(*entries), Field::I32(*leader)];
-            bare(alloc, 112, &fields)
-        }
+        } => module_bytes(alloc, *next_session, *actions, *entries, *leader),
         Piece::Pending {
             number,
             service,
             payload,
-        } => {
-            let fields = [Field::I64(*number), Field::I32(*service as i32)];
-            with_counted(alloc, 113, &fields, payload.as_slice())
-        }
+        } => pending_bytes(alloc, *number, *service, payload.as_slice()),
         Piece::ServiceState { bytes } => with_counted(alloc, 114, &[], bytes.as_slice()),
         Piece::Counter {
             offered,
             appended,
             service,
-        } => {
-            let (first, second) = (Field::I64(*offered), Field::I64(*appended));
-            bare(alloc, 115, &[first, second, Field::I32(*service as i32)])
-        }
+        } => bare(alloc, 115, &counter_fields(*offered, *appended, *service)),
     }
+}
+
+fn marker_bytes(
+    alloc: Global,
+    service: i64,
+    position: i64,
+    term: i64,
+    mark: Mark,
+) -> Result<Bytes, NoMemory>
+    ensures { IfOk result (λ bytes. bytes ≡ message 100 (I64 service ∷ I64 position ∷ I64 term ∷ I32 (pos 0) ∷ I32 (mark_number mark) ∷ []) ++ []) }
+{
+    let (first, second) = (Field::I64(service), Field::I64(position));
+    let fields = [
+        first,
+        second,
+        Field::I64(term),
+        Field::I32(0),
+        mark_field(mark),
+    ];
+    bare(alloc, 100, &fields)
+}
+
+fn session_fields(id: i64, corr: i64, stamp: i64, stream: i32, closing: bool) -> [Field; 5]
+    ensures { result ≡ I64 id ∷ I64 corr ∷ I64 stamp ∷ I32 stream ∷ I32 (flag_number closing) ∷ [] }
+{
+    let (first, second) = (Field::I64(id), Field::I64(corr));
+    [
+        first,
+        second,
+        Field::I64(stamp),
+        Field::I32(stream),
+        flag_field(closing),
+    ]
+}
+
+fn timer_fields(corr: i64, deadline: i64) -> [Field; 2]
+    ensures { result ≡ I64 corr ∷ I64 deadline ∷ [] }
+{
+    [Field::I64(corr), Field::I64(deadline)]
+}
+
+fn module_bytes(
+    alloc: Global,
+    next_session: i64,
+    actions: i64,
+    entries: i64,
+    leader: i32,
+) -> Result<Bytes, NoMemory>
+    ensures { IfOk result (λ bytes. bytes ≡ message 112 (I64 next_session ∷ I64 actions ∷ I64 entries ∷ I32 leader ∷ []) ++ []) }
+{
+    let (first, second) = (Field::I64(next_session), Field::I64(actions));
+    bare(
+        alloc,
+        112,
+        &[first, second, Field::I64(entries), Field::I32(leader)],
+    )
+}
+
+fn pending_bytes(alloc: Global, number: i64, service: u8, payload: &[u8]) -> Result<Bytes, NoMemory>
+    requires { length payload.now < 2 ^ 32 }
+    ensures { IfOk result (λ bytes. bytes ≡ message 113 (I64 number ∷ I32 (pos service) ∷ []) ++ counted payload.now) }
+{
+    let fields = [Field::I64(number), Field::I32(service as i32)];
+    with_counted(alloc, 113, &fields, payload)
+}
+
+fn counter_fields(offered: i64, appended: i64, service: u8) -> [Field; 3]
+    ensures { result ≡ I64 offered ∷ I64 appended ∷ I32 (pos service) ∷ [] }
+{
+    [
+        Field::I64(offered),
+        Field::I64(appended),
+        Field::I32(service as i32),
+    ]
 }
 
 fn mark_field(mark: Mark) -> Field

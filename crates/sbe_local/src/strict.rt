@@ -1,7 +1,7 @@
 // What is looked at in a message before a value is read from it.
-ghost use Rattle.std.specs.Prelude.{◌≡◌, ◌<◌, ◌≤◌, ◌^◌, ◌+◌, Some, None, length, take, drop, IfOk, OnOk, IfErr, IsTrue};
+ghost use Rattle.std.specs.Prelude.{◌≡◌, ◌<◌, ◌≤◌, ◌^◌, ◌+◌, Some, None, length, take, drop, IfOk, OnOk, IfErr};
 ghost use Rattle.wire_prims.specs.Fields.{u32_at};
-ghost use Rattle.wire_prims.specs.Strict.{rules_size, strict_fault as fault_of, is_service_session, service_of, number_of};
+ghost use Rattle.wire_prims.specs.Strict.{rules_size, strict_fault as fault_of};
 ghost use Rattle.wire_prims.specs.StrictLaws.{IsStrict};
 
 use cl_base::limits::NUMBER_LIMIT;
@@ -37,16 +37,6 @@ pub fn strict(bytes: &[u8], rules: &[Rule], tail: Tail) -> Result<(), Bad>
         Some(bad) => Err(bad),
         None => Ok(()),
     }
-}
-
-/// The service and the number that the session of a service's message names.
-pub fn sender_of(session: i64) -> (u8, i64)
-    requires { IsTrue (is_service_session session) }
-    ensures service { result.0 ≡ service_of session }
-    ensures number { result.1 ≡ number_of session }
-{
-    let n = (-1 - session).cast_unsigned();
-    ((n >> 48) as u8, (n % (1 << 48)) as i64)
 }
 
 /// The bytes at a place that have their number before them.

@@ -53,6 +53,43 @@ fn piece_text(alloc: Global, bytes: &[u8]) -> Result<String, Fail> {
     }
 }
 
+/// Whether so many bytes of a message are told to be too short.
+fn is_short(alloc: Global, told: &str, bytes: usize) -> Result<bool, Fail> {
+    let short = format!(in alloc; "{bytes} Short")?;
+    Ok(told == short.as_str())
+}
+
+/// The length of the first front of a command that isn't told to be short; its own where all are.
+fn short_commands(alloc: Global, bytes: &[u8]) -> Result<usize, Fail> {
+    for n in 0..bytes.len() {
+        let told = command_text(alloc, &bytes[..n])?;
+        if !is_short(alloc, told.as_str(), n)? {
+            return Ok(n);
+        }
+    }
+    Ok(bytes.len())
+}
+
+/// The length of the first front of a piece that isn't told to be short; its own where all are.
+fn short_pieces(alloc: Global, bytes: &[u8]) -> Result<usize, Fail> {
+    for n in 0..bytes.len() {
+        let told = piece_text(alloc, &bytes[..n])?;
+        if !is_short(alloc, told.as_str(), n)? {
+            return Ok(n);
+        }
+    }
+    Ok(bytes.len())
+}
+
+/// Whether a byte behind a piece is told to be one too many.
+fn trails(alloc: Global, text: &str) -> Result<bool, Fail> {
+    let mut longer = bytes_of(alloc, text)?;
+    let trailing = format!(in alloc; "{} Trailing", longer.len())?;
+    longer.push(0)?;
+    let told = piece_text(alloc, &longer)?;
+    Ok(told.as_str() == trailing.as_str())
+}
+
 #[test]
 fn commands_go_both_ways(rt: HostRuntime) -> Result<(), Fail> {
     let alloc = rt.alloc();
@@ -80,12 +117,18 @@ fn commands_go_both_ways(rt: HostRuntime) -> Result<(), Fail> {
     ] {
         let bytes = bytes_of(alloc, text)?;
         assert_eq!(rt; command_text(alloc, &bytes)?.as_str(), want);
-        for n in 0..bytes.len() {
-            let found = command_text(alloc, &bytes[..n])?;
-            let short = format!(in alloc; "{n} Short")?;
-            assert_eq!(rt; found.as_str(), short.as_str(), "{n} bytes of {text}");
-        }
+        assert_eq!(rt;
+            short_commands(alloc, &bytes)?,
+            bytes.len(),
+            "fronts of {text}"
+        );
     }
+    Ok(())
+}
+
+#[test]
+fn commands_with_a_fault(rt: HostRuntime) -> Result<(), Fail> {
+    let alloc = rt.alloc();
     for (text, want) in [
         (
             "0c00 2100 6f00 0000 8001000000000000 02000000 00",
@@ -140,16 +183,19 @@ fn pieces_go_both_ways(rt: HostRuntime) -> Result<(), Fail> {
     ] {
         let bytes = bytes_of(alloc, text)?;
         assert_eq!(rt; piece_text(alloc, &bytes)?.as_str(), want);
-        for n in 0..bytes.len() {
-            let found = piece_text(alloc, &bytes[..n])?;
-            let short = format!(in alloc; "{n} Short")?;
-            assert_eq!(rt; found.as_str(), short.as_str(), "{n} bytes of {text}");
-        }
-        let mut longer = bytes_of(alloc, text)?;
-        longer.push(0)?;
-        let trailing = format!(in alloc; "{} Trailing", bytes.len())?;
-        assert_eq!(rt; piece_text(alloc, &longer)?.as_str(), trailing.as_str());
+        assert_eq!(rt;
+            short_pieces(alloc, &bytes)?,
+            bytes.len(),
+            "fronts of {text}"
+        );
+        assert!(rt; trails(alloc, text)?, "{text}");
     }
+    Ok(())
+}
+
+#[test]
+fn a_mark_is_0_or_2(rt: HostRuntime) -> Result<(), Fail> {
+    let alloc = rt.alloc();
     let mark =
         "2000 6400 6f00 0000 ffffffffffffffff 8001000000000000 0000000000000000 00000000 01000000 00";
     assert_eq!(rt;

@@ -7,3 +7,4 @@ pub mod CanonicalLines
 pub mod Again
 pub mod MadeLines
 pub mod MadeAgain
+pub mod PrintedParts

@@ -68,6 +68,64 @@ keyword_for (Backup line m) = keyword.Backup
 keyword_for (BackupOff line) = keyword.Backup
 keyword_for (BackupLose line) = keyword.Backup
 
+-- the numbers of an order, a space between them
+abbrev pub numbers_text : Order → List ℕ
+numbers_text (Members line n) = decimal n
+numbers_text (Service line name) = []
+numbers_text (Rounds line n) = decimal n
+numbers_text (Quiet line n) = decimal n
+numbers_text (Connect line c m) = two_text c m
+numbers_text (Send line c m text) = two_text c m
+numbers_text (SendHex line c m payload) = two_text c m
+numbers_text (Close line c m) = two_text c m
+numbers_text (KeepAlive line c m) = two_text c m
+numbers_text (Raw line c m bytes) = two_text c m
+numbers_text (Action line m) = decimal m
+numbers_text (Stop line m) = decimal m
+numbers_text (Start line m) = decimal m
+numbers_text (Invalidate line m) = decimal m
+numbers_text (Fuse line m calls left) = two_text m calls
+numbers_text (Cut line a b) = two_text a b
+numbers_text (Heal line a b) = two_text a b
+numbers_text (Lose line a b) = two_text a b
+numbers_text (Replay line a b k) = two_text a b
+numbers_text (FreeOn line) = []
+numbers_text (FreeOff line) = []
+numbers_text (Join line c) = decimal c
+numbers_text (Offer line c text) = decimal c
+numbers_text (Backup line m) = decimal m
+numbers_text (BackupOff line) = []
+numbers_text (BackupLose line) = []
+
+-- what stands behind an order's numbers
+abbrev pub rest_text : Order → List ℕ
+rest_text (Members line n) = []
+rest_text (Service line name) = name_text name
+rest_text (Rounds line n) = []
+rest_text (Quiet line n) = []
+rest_text (Connect line c m) = []
+rest_text (Send line c m text) = 32 ∷ text
+rest_text (SendHex line c m payload) = 32 ∷ hex_text payload
+rest_text (Close line c m) = []
+rest_text (KeepAlive line c m) = []
+rest_text (Raw line c m bytes) = 32 ∷ hex_text bytes
+rest_text (Action line m) = []
+rest_text (Stop line m) = []
+rest_text (Start line m) = []
+rest_text (Invalidate line m) = []
+rest_text (Fuse line m calls left) = 32 ∷ choice_text left
+rest_text (Cut line a b) = []
+rest_text (Heal line a b) = []
+rest_text (Lose line a b) = []
+rest_text (Replay line a b k) = 32 ∷ decimal k
+rest_text (FreeOn line) = codes "on"
+rest_text (FreeOff line) = codes "off"
+rest_text (Join line c) = []
+rest_text (Offer line c text) = 32 ∷ text
+rest_text (Backup line m) = []
+rest_text (BackupOff line) = codes "off"
+rest_text (BackupLose line) = codes "lose"
+
 -- what stands behind the first word and its space
 abbrev pub args_text : Order → List ℕ
 args_text (Members line n) = decimal n

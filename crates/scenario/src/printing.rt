@@ -1,6 +1,6 @@
 // Orders as text.
 ghost use Rattle.std.specs.Prelude.{◌≡◌, ◌<◌, ◌++◌, ◌∷◌, [], IfOk, OnOk, decimal, flat_map};
-ghost use Rattle.scenario.specs.Printing.{glyph as glyph_of_digit, byte_text, hex_text, choice_text, name_text, two_text, keyword_for, args_text, order_text, printed};
+ghost use Rattle.scenario.specs.Printing.{glyph as glyph_of_digit, byte_text, hex_text, choice_text, name_text, two_text, keyword_for, numbers_text, rest_text, args_text, order_text, printed};
 
 use crate::keyword::{Double, Keyword, Single};
 use crate::order::{Named, Order};
@@ -119,18 +119,9 @@ fn keyword_of(order: &Order) -> Keyword
     }
 }
 
-/// Puts what stands behind the two numbers of an order.
-fn put_tail(out: &mut Vec<u8>, first: u64, second: u64) -> Result<(), AllocError>
-    ensures { OnOk result (out.new.items ≡ out.old.items ++ two_text first second ++ 32 ∷ []) }
-{
-    put_two(out, first, second)?;
-    out.push(b' ')?;
-    Ok(())
-}
-
-/// Puts what stands behind the first word and its space.
-fn put_args(out: &mut Vec<u8>, order: &Order) -> Result<(), AllocError>
-    ensures { OnOk result (out.new.items ≡ out.old.items ++ args_text order.now) }
+/// Puts the numbers of an order, a space between them.
+fn put_numbers(out: &mut Vec<u8>, order: &Order) -> Result<(), AllocError>
+    ensures { OnOk result (out.new.items ≡ out.old.items ++ numbers_text order.now) }
 {
     match order {
         Order::Members { members: n, .. }
@@ -141,77 +132,59 @@ fn put_args(out: &mut Vec<u8>, order: &Order) -> Result<(), AllocError>
         | Order::Start { member: n, .. }
         | Order::Invalidate { member: n, .. }
         | Order::Join { client: n, .. }
+        | Order::Offer { client: n, .. }
         | Order::Backup { member: n, .. } => put_number(out, *n),
-        Order::Connect {
-            client: a,
-            member: b,
-            ..
-        }
-        | Order::Close {
-            client: a,
-            member: b,
-            ..
-        }
-        | Order::KeepAlive {
-            client: a,
-            member: b,
-            ..
-        }
-        | Order::Cut { from: a, to: b, .. }
-        | Order::Heal { from: a, to: b, .. }
-        | Order::Lose { from: a, to: b, .. } => put_two(out, *a, *b),
+        Order::Connect { client, member, .. }
+        | Order::Send { client, member, .. }
+        | Order::SendHex { client, member, .. }
+        | Order::Close { client, member, .. }
+        | Order::KeepAlive { client, member, .. }
+        | Order::Raw { client, member, .. } => put_two(out, *client, *member),
+        Order::Fuse { member, calls, .. } => put_two(out, *member, *calls),
+        Order::Cut { from, to, .. }
+        | Order::Heal { from, to, .. }
+        | Order::Lose { from, to, .. }
+        | Order::Replay { from, to, .. } => put_two(out, *from, *to),
+        _ => Ok(()),
+    }
+}
+
+/// Puts what stands behind the numbers of an order.
+fn put_rest(out: &mut Vec<u8>, order: &Order) -> Result<(), AllocError>
+    ensures { OnOk result (out.new.items ≡ out.old.items ++ rest_text order.now) }
+{
+    match order {
         Order::Service { name, .. } => put_name(out, *name),
         Order::FreeOn { .. } => out.extend_from_slice(b"on"),
         Order::FreeOff { .. } | Order::BackupOff { .. } => out.extend_from_slice(b"off"),
         Order::BackupLose { .. } => out.extend_from_slice(b"lose"),
-        Order::Offer { client, text, .. } => {
-            put_number(out, *client)?;
+        Order::Send { text, .. } | Order::Offer { text, .. } => {
             out.push(b' ')?;
             out.extend_from_slice(text.as_slice())
         }
-        Order::Send {
-            client,
-            member,
-            text,
-            ..
-        } => {
-            put_tail(out, *client, *member)?;
-            out.extend_from_slice(text.as_slice())
-        }
-        Order::SendHex {
-            client,
-            member,
-            payload: bytes,
-            ..
-        }
-        | Order::Raw {
-            client,
-            member,
-            bytes,
-            ..
-        } => {
-            put_tail(out, *client, *member)?;
+        Order::SendHex { payload: bytes, .. } | Order::Raw { bytes, .. } => {
+            out.push(b' ')?;
             put_hex(out, bytes.as_slice())
         }
-        Order::Fuse {
-            member,
-            calls,
-            choice,
-            ..
-        } => {
-            put_tail(out, *member, *calls)?;
+        Order::Fuse { choice, .. } => {
+            out.push(b' ')?;
             put_choice(out, *choice)
         }
-        Order::Replay {
-            from,
-            to,
-            latest,
-            ..
-        } => {
-            put_tail(out, *from, *to)?;
+        Order::Replay { latest, .. } => {
+            out.push(b' ')?;
             put_number(out, *latest)
         }
+        _ => Ok(()),
     }
+}
+
+/// Puts what stands behind the first word and its space.
+#[tactic(auto, using(crate::proofs::PrintedParts::parts_text))]
+fn put_args(out: &mut Vec<u8>, order: &Order) -> Result<(), AllocError>
+    ensures { OnOk result (out.new.items ≡ out.old.items ++ args_text order.now) }
+{
+    put_numbers(out, order)?;
+    put_rest(out, order)
 }
 
 /// Puts an order as a line, with its line feed.

@@ -1,16 +1,15 @@
 -- Each act keeps the invariant of runs.
 use Rattle.std.proofs.Common.{◌≡◌, inl, inr, ℕ, zero, suc, ◌<◌, ◌≤◌, Bool, true, false, ◌&&◌, ◌||◌, not, List, [], ◌∷◌, ◌++◌, length, take, set, refl, sym, ap, ◌∙◌, subst, arith, ℤ, negsuc, Some, None, Option, if◌then◌else◌}
 use Rattle.std.specs.Prelude.{Contains, slice_get, min, nat_eq, nat_lt}
-use Rattle.std.proofs.lemmas.Int.{ints}
 use Rattle.std.proofs.lemmas.Bool.Decides.{nat_tests}
 use Rattle.std.proofs.lemmas.List.Elements.{Contains-append_cases}
 use Rattle.std.proofs.lemmas.Option.{slice_get_within}
 use Rattle.cl_base.specs.declared.entry.Entry.{Entry}
 use Rattle.entry_log.specs.Durable.{SnapshotEntry}
-use Rattle.entry_log.specs.Log.{Log, IsPrefixOf}
+use Rattle.entry_log.specs.Log.{Log}
 use Rattle.election.specs.declared.member.State.{State}
 use Rattle.election.specs.declared.member.State.TheVariants.{LeaderInit, LeaderReady}
-use Rattle.log_replication.specs.Prefixes.{Leads, is_prefix, Leads-self, Leads-trans}
+use Rattle.log_replication.specs.Prefixes.{Leads, Leads-trans}
 use Rattle.world.specs.World.{World, Reign, Step, Passes, Starts, Stops, Duty, Delivers, Client, Puts, Invalidates, member, step, is_running, reigns_at}
 use Rattle.consensus_core.specs.Member.{Member, Sent, Cut}
 use Rattle.world.proofs.Rows.{and_true}
@@ -18,15 +17,16 @@ use Rattle.world.proofs.Runs.{step-keeps, formatted-inv, runs}
 use Rattle.world.proofs.Effects.{if-cases, none_in}
 use Rattle.agreement.proofs.Second.{Fits}
 use Rattle.agreement.proofs.Runs2.{step-fits, formatted-fits, all-fresh}
-use Rattle.agreement.proofs.Rows2.{length-up}
+use Rattle.agreement.proofs.Fronts.{length-up}
 use Rattle.agreement.proofs.Commits.{take-leads}
 use Rattle.agreement.proofs.Snaps2.{cons-cases, cons-later, cons-here}
-use Rattle.agreement.proofs.Moves.{MemberMoves, step-moves, step-snaps, step-spares, IsPut, IsActor}
+use Rattle.agreement.proofs.Moves.{MemberMoves, step-moves}
+use Rattle.agreement.proofs.Spares.{step-snaps, step-spares, IsPut, IsActor}
 use Rattle.service_runs.specs.Hosts.{Rules, Due, Output, Stage, Idle, Taking, Over, Ending, Feeding, Host, Hosted, Act, Rows, Mounts, Drops, Opens, Feeds, Takes, Closes, Writes, Sends, due_in, sent_in, noted, with_host, is_over, marked, lets_at, lets_rows, lets_packet, all_published, is_idle, is_taking, is_row, is_free, role_of, opens, opened, no_feed, feed_of, pushed, fed_more, is_feeding, feeds, input, takes, all_reach, closes, writes, sends, act, acts_on, hosted}
 use Rattle.consensus_core.specs.Member.{is_ready, with_next}
 use Rattle.service_runs.specs.Served.{IsNamed}
 use Rattle.service_runs.proofs.Lists.{index-has, with_next-leads, with_next-length, set-contains, take-short, pushed-leads, next-same}
-use Rattle.service_runs.proofs.Held.{DueOk, StageOk, HostOk, FeedOk, PastOk, IsBelow, Calms, Held, front-settled, input-printed, noted-held, prints, settled-moves}
+use Rattle.service_runs.proofs.Held.{DueOk, StageOk, HostOk, FeedOk, PastOk, IsBelow, Calms, Held, front-settled, input-printed, noted-held}
 use Rattle.service_runs.proofs.Sendings.{due_in-ok, sent_in-ok, sent_in-once, Once-append, of_term-is}
 
 with-cases : (P : ℕ → Host → Type 0) (hosts : ℕ → Host) (m : ℕ) (h : Host) → P m h → ((j : ℕ) → nat_eq j m ≡ false → P j (hosts j)) → (j : ℕ) → P j (if nat_eq j m then h else hosts j)
@@ -473,41 +473,3 @@ hosted-held n r = record {
 
 pub held : (n : ℕ) (r : Rules) (as' : List Act) → Held n r (acts_on r (hosted n) as')
 held n r as' = acts-held n r (hosted n) as' (hosted-held n r)
-
-self-prefix : (xs : Log) → IsPrefixOf xs xs
-self-prefix xs = is_prefix xs xs (Leads-self xs)
-
--- the printed log only grows
-noted-printed : (n : ℕ) (r : Rules) (w : Hosted) (s : Step) → Held n r w → IsPrefixOf w.printed (noted r w (step w.world s)).printed
-noted-printed n r w s k =
-    is_prefix w.printed (noted r w (step w.world s)).printed
-    (prints n (step w.world s) (length (step w.world s).members) w.printed (step-fits n w.world s k.inv k.fits)
-    (k.printed.0, settled-moves w.world (step w.world s) k.printed.0 k.printed.0 w.printed (step-moves n w.world s k.inv k.fits) (omega (arith, ints)) k.printed.1)).1
-
-writes-printed : (n : ℕ) (r : Rules) (w : Hosted) (m : ℕ) (s : Stage) (cut : Cut) → Held n r w → IsPrefixOf w.printed (writes r w m s cut).printed
-writes-printed n r w m Idle cut k = self-prefix w.printed
-writes-printed n r w m Taking cut k = self-prefix w.printed
-writes-printed n r w m Over cut k = self-prefix w.printed
-writes-printed n r w m (Ending upto []) cut k = self-prefix w.printed
-writes-printed n r w m (Ending upto (d ∷ due)) cut k =
-    if-cases (λ (z : Hosted). IsPrefixOf w.printed z.printed) (is_running w.world m) _ _ (λ b. noted-printed n r w (Puts m d.entries d.snap cut) k) (λ b. self-prefix w.printed)
-
-sends-printed : (r : Rules) (w : Hosted) (m : ℕ) (s : Stage) → IsPrefixOf w.printed (sends r w m s).printed
-sends-printed r w m Idle = self-prefix w.printed
-sends-printed r w m Taking = self-prefix w.printed
-sends-printed r w m Over = self-prefix w.printed
-sends-printed r w m (Ending upto (d ∷ due)) = self-prefix w.printed
-sends-printed r w m (Ending upto []) = if-cases (λ (z : Hosted). IsPrefixOf w.printed z.printed) (is_running w.world m) _ _ (λ b. self-prefix w.printed) (λ b. self-prefix w.printed)
-
-pub act-printed : (n : ℕ) (r : Rules) (w : Hosted) (a : Act) → Held n r w → IsPrefixOf w.printed (act r w a).printed
-act-printed n r w (Rows s) k = if-cases (λ (z : Hosted). IsPrefixOf w.printed z.printed) (is_row s && is_free w s) _ _ (λ b. noted-printed n r w s k) (λ b. self-prefix w.printed)
-act-printed n r w (Mounts m) k = noted-printed n r w (Starts m r.services) k
-act-printed n r w (Drops m) k = noted-printed n r w (Invalidates m r.services) k
-act-printed n r w (Opens m) k = if-cases (λ (z : Hosted). IsPrefixOf w.printed z.printed) (is_running w.world m && is_idle (w.hosts m).stage) _ _ (λ b. self-prefix w.printed) (λ b. self-prefix w.printed)
-act-printed n r w (Feeds m s c) k = if-cases (λ (z : Hosted). IsPrefixOf w.printed z.printed) (is_running w.world m && is_feeding (w.hosts m).stage) _ _ (λ b. self-prefix w.printed) (λ b. self-prefix w.printed)
-act-printed n r w (Takes m s) k =
-    if-cases (λ (z : Hosted). IsPrefixOf w.printed z.printed) (is_running w.world m && (is_taking (w.hosts m).stage && (nat_lt s r.services && nat_lt (length (input (w.hosts m) s)) (feed_of (w.hosts m) s).published))) _ _ (λ b. self-prefix w.printed) (λ b. self-prefix w.printed)
-act-printed n r w (Closes m) k =
-    if-cases (λ (z : Hosted). IsPrefixOf w.printed z.printed) (is_running w.world m && (is_taking (w.hosts m).stage && all_reach (member w.world m).values.rest.commit (w.hosts m).run.inputs)) _ _ (λ b. self-prefix w.printed) (λ b. self-prefix w.printed)
-act-printed n r w (Writes m cut) k = writes-printed n r w m (w.hosts m).stage cut k
-act-printed n r w (Sends m) k = sends-printed r w m (w.hosts m).stage

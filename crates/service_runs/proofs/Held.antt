@@ -20,7 +20,7 @@ use Rattle.world.proofs.Kept.{Inv}
 use Rattle.world.proofs.Effects.{if-cases, only_in}
 use Rattle.agreement.specs.View.{IsSettled, view_of}
 use Rattle.agreement.proofs.Second.{Fits}
-use Rattle.agreement.proofs.Rows2.{settled-front}
+use Rattle.agreement.proofs.Fronts.{settled-front}
 use Rattle.agreement.proofs.Runs2.{commits-hold}
 use Rattle.agreement.proofs.Commits.{take-leads}
 use Rattle.agreement.proofs.Moves.{Moves}
@@ -28,7 +28,7 @@ use Rattle.service_runs.specs.Hosts.{Rules, Due, Output, Stage, Idle, Taking, Ov
 use Rattle.consensus_core.specs.Member.{Run, is_ready}
 use Rattle.service_runs.specs.Served.{SettledAt, IsNamed, IsOwed}
 use Rattle.service_runs.proofs.Lists.{front-get, front-take, lead-get, Leads-by_length, leads-take-up, empty-leads, take-length, take-short, replicate-contains}
-use Rattle.agreement.proofs.Rows2.{take-front}
+use Rattle.agreement.proofs.Fronts.{take-front}
 
 -- the entry is that of a snapshot action below this number of entries
 abbrev pub DueOk : Rules → Log → ℕ → Due → Type 0

@@ -15,8 +15,8 @@ pub use frame::{
     FIRST_FLAGS, FrameHead, LAST_FLAGS, OPEN_GATE, WHOLE_FLAGS, read_frame, write_frame,
 };
 pub use header::{HEADER_BYTES, Header, SCHEMA, aligned, read_header};
-pub use strict::{Field, Rule, Tail, strict_fault};
-pub use write::{message_of, put_counted};
+pub use strict::{Field, Rule, Tail, sender_of, session_of, strict_fault};
+pub use write::{bare, message_of, put_counted, with_counted, with_rest};
 
 #[cfg(test)]
 mod tests;

@@ -214,3 +214,23 @@ pub fn strict_fault(bytes: &[u8], rules: &[Rule], tail: Tail) -> Option<Bad>
         None => tail_fault(bytes, 8 + size, tail),
     }
 }
+
+/// The session under which a service's message stands in the log.
+pub fn session_of(service: u8, number: i64) -> i64
+    requires service { service ≤ 2 }
+    requires low { pos 1 ≤ℤ number }
+    requires high { number ≤ℤ pos (2 ^ 47) }
+    ensures { result ≡ service_session service number }
+{
+    -1 - ((service as i64) * (1 << 48) + number)
+}
+
+/// The service and the number that the session of a service's message names.
+pub fn sender_of(session: i64) -> (u8, i64)
+    requires { IsTrue (is_service_session session) }
+    ensures service { result.0 ≡ service_of session }
+    ensures number { result.1 ≡ number_of session }
+{
+    let n = (-1 - session).cast_unsigned();
+    ((n >> 48) as u8, (n % (1 << 48)) as i64)
+}

@@ -1,11 +1,11 @@
 // Messages as bytes.
-ghost use Rattle.std.specs.Prelude.{◌≡◌, ◌<◌, ◌^◌, ◌++◌, OnOk, IfOk, length};
+ghost use Rattle.std.specs.Prelude.{◌≡◌, ◌<◌, ◌^◌, ◌++◌, [], OnOk, IfOk, length};
 ghost use Rattle.wire_prims.specs.Fields.{le16};
 ghost use Rattle.wire_prims.specs.Strict.{field_bytes, field_size, block_bytes, block_size, message, counted};
 
 use crate::SCHEMA;
 use crate::strict::Field;
-use cl_base::NoMemory;
+use cl_base::{Bytes, NoMemory};
 use std::alloc::{AllocError, Global};
 
 impl Field {
@@ -83,4 +83,44 @@ pub fn message_of(alloc: Global, template: u16, fields: &[Field]) -> Result<Vec<
     put_header(&mut out, block_len(fields) as u16, template)?;
     put_block(&mut out, fields)?;
     Ok(out)
+}
+
+/// A message with nothing behind its block.
+pub fn bare(alloc: Global, template: u16, fields: &[Field]) -> Result<Bytes, NoMemory>
+    requires { block_size fields.now < 2 ^ 16 }
+    ensures { IfOk result (λ b. b ≡ message template fields.now ++ []) }
+{
+    let out = message_of(alloc, template, fields)?;
+    Ok(Bytes::from_vec(out))
+}
+
+/// A message with these bytes behind its block.
+pub fn with_rest(
+    alloc: Global,
+    template: u16,
+    fields: &[Field],
+    rest: &[u8],
+) -> Result<Bytes, NoMemory>
+    requires { block_size fields.now < 2 ^ 16 }
+    ensures { IfOk result (λ b. b ≡ message template fields.now ++ rest.now) }
+{
+    let mut out = message_of(alloc, template, fields)?;
+    out.extend_from_slice(rest)?;
+    Ok(Bytes::from_vec(out))
+}
+
+/// A message with these bytes and their number behind its block.
+pub fn with_counted(
+    alloc: Global,
+    template: u16,
+    fields: &[Field],
+    bytes: &[u8],
+) -> Result<Bytes, NoMemory>
+    requires size { block_size fields.now < 2 ^ 16 }
+    requires count { length bytes.now < 2 ^ 32 }
+    ensures { IfOk result (λ b. b ≡ message template fields.now ++ counted bytes.now) }
+{
+    let mut out = message_of(alloc, template, fields)?;
+    put_counted(&mut out, bytes)?;
+    Ok(Bytes::from_vec(out))
 }

@@ -1,4 +1,7 @@
 pub mod LogRows
+pub mod Words
+pub mod Turns
+pub mod Hearing
 pub mod Same
 pub mod Quorum
 pub mod Better

@@ -1,5 +1,5 @@
 -- The batch behind the log.
-use Rattle.std.proofs.Common.{◌≡◌, inr, sym, ◌∙◌, ap, subst, arith}
+use Rattle.std.proofs.Common.{◌≡◌, inr, Err, sym, ◌∙◌, ap, subst, arith}
 use Rattle.cl_base.specs.declared.fault.MemberFault.TheVariants as fault
 use Rattle.entry_log.specs.Log.{Log, place, place_from}
 use Rattle.log_segment.specs.Batch.{IsBatchAt}
@@ -21,3 +21,18 @@ pub returns-in-Ok-clause-room : goal.returns-in-Ok-clause-room
 returns-in-Ok-clause-room c =
     let end : c.end_with-end.result ≡ place_from (place c.args.self.now) c.args.entries.now = c.end_with-end.ensures ∙ ap (λ p. place_from p c.args.entries.now) (c.place-place.ensures.place ∙ ap (λ (l : Log). place l) c.self.view_is) in
     omega (arith, end, c.if-end-gt-LOG_LIMIT.false)
+
+pub returns-then-end-gt-LOG_LIMIT-clause-full : goal.returns-then-end-gt-LOG_LIMIT-clause-full
+returns-then-end-gt-LOG_LIMIT-clause-full c out =
+    let end : c.end_with-end.result ≡ place_from (place c.args.self.now) c.args.entries.now = c.end_with-end.ensures ∙ ap (λ p. place_from p c.args.entries.now) (c.place-place.ensures.place ∙ ap (λ (l : Log). place l) c.self.view_is) in
+    ap (λ p. Err (fault.LogFull p)) end
+
+pub returns-in-Ok-clause-full : goal.returns-in-Ok-clause-full
+returns-in-Ok-clause-full c out =
+    let end : c.end_with-end.result ≡ place_from (place c.args.self.now) c.args.entries.now = c.end_with-end.ensures ∙ ap (λ p. place_from p c.args.entries.now) (c.place-place.ensures.place ∙ ap (λ (l : Log). place l) c.self.view_is) in
+    absurd (omega (arith, end, out, c.if-end-gt-LOG_LIMIT.false))
+
+pub returns-in-Err-clause-full : goal.returns-in-Err-clause-full
+returns-in-Err-clause-full c out =
+    let end : c.end_with-end.result ≡ place_from (place c.args.self.now) c.args.entries.now = c.end_with-end.ensures ∙ ap (λ p. place_from p c.args.entries.now) (c.place-place.ensures.place ∙ ap (λ (l : Log). place l) c.self.view_is) in
+    absurd (omega (arith, end, out, c.if-end-gt-LOG_LIMIT.false))
