@@ -27,6 +27,3 @@ pub use laws::{
 pub use moment::Moment;
 pub use output::ModuleOutput;
 pub use state::ModuleState;
-
-#[cfg(test)]
-mod tests;

@@ -2,8 +2,8 @@ ghost use Rattle.std.specs.Prelude.{◌≤◌, IfOk};
 ghost use Rattle.std.specs.List.{AllByRecursion};
 ghost use Rattle.sbe_events.specs.Spelling.{HasSpelling};
 
-use super::*;
 use cl_base::{Bytes, List, NoMemory};
+use module_state::{ModuleState, Moment};
 use sbe_events::Event;
 use sbe_local::Command;
 use std::alloc::Global;
