@@ -1,4 +1,5 @@
 pub mod Lists
 pub mod Ends
+pub mod FedLog
 pub mod ImageMore
 pub mod Stretches

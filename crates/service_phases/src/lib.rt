@@ -8,10 +8,12 @@ mod finishing;
 mod forget;
 mod hand;
 mod images;
+mod laws;
 mod lend;
 mod services;
 
 pub use feeding::{feed_each, have_pushed, publish_each, wanted};
 pub use finishing::{finish_each, have_ended, have_published, have_taken};
 pub use hand::{Back, Hand, Serves, start, take_back, work};
+pub use laws::{what_is_fed_is_the_logs, what_is_published_stays_the_logs};
 pub use services::Services;

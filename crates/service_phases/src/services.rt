@@ -120,6 +120,8 @@ impl Services {
         requires ended { Each HasEndedWell served }
         requires bound { Each (λ f. f.commit < 2 ^ 62) feeds }
         ensures closed { Each2 Closed feeds served }
+        // What each service consumed is the log's, within its commit.
+        ensures within { (log : ListOf LogEntry) → (commit : ℕ) → Each (IsWithin log commit) self.old.lent → Each2 (FeedEnds log commit) self.old.begun feeds → Each (IsWithin log commit) (containers served) }
         ensures began { IfOk result (λ p. Began (keeping served) self.new p.0 p.1) }
         ensures kept { OnErr result (self.new ≡ keeping served) }
     {
