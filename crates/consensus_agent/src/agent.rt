@@ -149,9 +149,15 @@ impl<D: Disk> Agent<D> {
         ensures core { self.new.core ≡ self.old.core }
         ensures module { self.new.module ≡ self.old.module }
         ensures services { self.new.services ≡ self.old.services }
+        ensures base { self.new.base ≡ self.old.base }
+        ensures role { self.new.role ≡ self.old.role }
         ensures over { self.new.over ≡ self.old.over }
         ensures kept { self.new.disk.kept ≡ self.old.disk.kept }
         ensures whole { self.new.is_whole ≡ self.old.is_whole }
+        ensures tells { D.tells self.new.disk.disk ≡ D.tells self.old.disk.disk }
+        ensures honest { D.is_honest self.new.disk.disk ≡ D.is_honest self.old.disk.disk }
+        // Files and faults are as they were.
+        ensures told { IsTrue (D.tells self.old.disk.disk) → D.state self.new.disk.disk ≡ record (D.state self.old.disk.disk) { lets = Some calls } }
     {
         self.disk.fuse(calls);
     }

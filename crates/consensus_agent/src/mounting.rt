@@ -1,5 +1,5 @@
 // How a member starts from its disk.
-ghost use Rattle.std.specs.Prelude.{◌≡◌, true, ◌<◌, ◌≤◌, ◌^◌, pos, negsuc, ◌≤ℤ◌, [], length, unwrap_or, IsTrue, IfOk, OnOk};
+ghost use Rattle.std.specs.Prelude.{◌≡◌, true, false, ◌<◌, ◌≤◌, ◌^◌, pos, negsuc, ◌≤ℤ◌, [], length, unwrap_or, IsTrue, IfOk, OnOk};
 ghost use Rattle.member_disk.specs.Changes.{HasSome};
 ghost use Rattle.snapshot_pieces.specs.Pieces.{IsOrigin};
 ghost use Rattle.service_phases.specs.Pairs.{Each};
@@ -248,6 +248,11 @@ impl<D: Disk> Agent<D> {
         requires id { id < members }
         requires some { 1 ≤ length kinds.now }
         requires few { length kinds.now ≤ 3 }
+        ensures core { IfOk result (λ a. a.core ≡ started id members a.disk.kept.node.term a.disk.kept.node.voted a.base) }
+        ensures services { IfOk result (λ a. a.disk.kept.services ≡ length kinds.now) }
+        ensures within { IfOk result (λ a. a.base ≤ length a.disk.kept.log) }
+        ensures role { IfOk result (λ a. a.role ≡ Role.Follower) }
+        ensures over { IfOk result (λ a. a.over ≡ false) }
         ensures idle { IfOk result (λ a. IsIdle (stage a.services a.module a.core a.over)) }
         ensures based { IfOk result (λ a. a.module.consumed ≡ a.base) }
         ensures whole { IfOk result (λ a. IsTrue a.is_whole) }

@@ -7,12 +7,13 @@ use Rattle.cl_base.specs.declared.entry.Entry.{Entry}
 use Rattle.wire_prims.specs.declared.fault.Bad.{Bad}
 use Rattle.sbe_events.specs.declared.event.Event.{Event}
 use Rattle.sbe_events.specs.Spelling.{HasSpelling, event_of, first_fault}
+use Rattle.module_state.specs.Entries.{events_in, with_event}
 use Rattle.module_state.specs.Part.{Part, run_events}
 use Rattle.module_state.specs.Module.{Module, module_after, tentative}
 use Rattle.module_state.specs.Dispatch.{pending_part, sessions_part, timers_part}
 use Rattle.module_state.specs.Counts.{counts_part}
 use Rattle.member_module.specs.Ahead.{AreEvents, event_in, some_event}
-use Rattle.member_module.specs.Held.{brought_past}
+use Rattle.member_module.specs.Held.{brought_past, with_coming}
 
 module _ {X : Type 0} (P : X → Type 0) where
   all_take : (n : ℕ) (xs : List X) → AllByRecursion P xs → AllByRecursion P (take n xs)
@@ -72,3 +73,11 @@ tentative_push m es e = λ i. record {
 pub past_is : (m : Module) (es : List Event) (e : Event) (latest next : Option Module) → IfSome latest (λ t. t ≡ tentative m es) → next ≡ brought_past e latest → IfSome next (λ t. t ≡ tentative m (es ++ e ∷ []))
 past_is m es e None next h is = rw is tt
 past_is m es e (Some t) next h is = rw is (ap (λ x. module_after x e) h ∙ sym (tentative_push m es e))
+
+-- the events of one entry
+pub one_event : (x : Entry) (e : Event) → event_in x ≡ Some e → events_in (x ∷ []) ≡ e ∷ []
+one_event x e is = ap (λ o. with_event o []) is
+
+-- the event that came stands behind the others
+pub with_one : (o : Option Event) (e : Event) (es : List Event) → o ≡ Some e → with_coming o es ≡ es ++ e ∷ []
+with_one o e es is = ap (λ z. with_coming z es) is

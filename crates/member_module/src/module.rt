@@ -8,6 +8,7 @@ ghost use Rattle.module_state.specs.Module.{module_after, module_asked};
 ghost use Rattle.module_state.specs.Due.{due};
 ghost use Rattle.module_state.specs.Owed.{owed_by_module};
 ghost use Rattle.module_state.specs.Outputs.{outputs_of};
+ghost use Rattle.module_state.specs.Entries.{events_in};
 ghost use Rattle.member_module.specs.Ahead.{event_in, AreEvents};
 ghost use Rattle.member_module.specs.Held.{Holds, at_end, brought_past, latest_of, with_coming};
 
@@ -225,8 +226,10 @@ impl MemberModule {
 
     /// An entry is in the log. Where it spells no event, or another is expected, there is no place for it: the answer is
     /// that of no memory.
+    #[tactic(auto, using(crate::proofs::Events::one_event))]
     pub fn append(&mut self, entry: Entry) -> Result<(), NoMemory>
         ensures entries { OnOk result (self.new.ahead.entries ≡ self.old.ahead.entries ++ entry ∷ []) }
+        ensures events { OnOk result (self.new.ahead.events ≡ self.old.ahead.events ++ events_in (entry ∷ [])) }
         ensures stays { OnErr result ((self.new.ahead.entries ≡ self.old.ahead.entries) × (self.new.ahead.events ≡ self.old.ahead.events)) }
         ensures rest { self.new ≡ record self.old { ahead = self.new.ahead; latest = self.new.latest } }
     {
@@ -237,10 +240,12 @@ impl MemberModule {
     }
 
     /// The entry of this event is in the log.
+    #[tactic(auto, using(crate::proofs::Events::with_one))]
     fn append_next(&mut self, entry: Entry, event: Event) -> Result<(), NoMemory>
         requires event { event_in entry ≡ Some event }
         requires spelled { HasSpelling event }
         ensures entries { OnOk result (self.new.ahead.entries ≡ self.old.ahead.entries ++ entry ∷ []) }
+        ensures events { OnOk result (self.new.ahead.events ≡ self.old.ahead.events ++ event ∷ []) }
         ensures stays { OnErr result ((self.new.ahead.entries ≡ self.old.ahead.entries) × (self.new.ahead.events ≡ self.old.ahead.events)) }
         ensures rest { self.new ≡ record self.old { ahead = self.new.ahead; latest = self.new.latest } }
     {
@@ -255,6 +260,7 @@ impl MemberModule {
     /// The log was cut to so many entries, at least as many as were consumed.
     pub fn cut(&mut self, entries: u64)
         ensures entries { self.new.ahead.entries ≡ take (entries - self.old.consumed) self.old.ahead.entries }
+        ensures events { self.new.ahead.events ≡ take (entries - self.old.consumed) self.old.ahead.events }
         ensures rest { self.new ≡ record self.old { ahead = self.new.ahead; latest = None } }
     {
         let left = entries.saturating_sub(self.consumed);
