@@ -1,15 +1,16 @@
 // A running member, between its phases and in one that goes on.
+ghost use Rattle.std.specs.Prelude.{◌≡◌};
 ghost use Rattle.run_phases.specs.Frees.{IsFree, IsGoing};
 ghost use Rattle.service_phases.specs.Stages.{IsIdle};
 
 use crate::calls::Call;
 use crate::member::{Member, Shown};
-use crate::outside::Outside;
 use crate::site::{MemberId, Site};
 use cl_base::{Disk, Entry, List, MemberFault, NoMemory};
 use consensus_agent::{AgentFault, Fed};
 use egress::Sent;
 use ingress::Outcome;
+use run_outside::Outside;
 use run_phases::Free;
 use service_container::NoGate;
 use std::alloc::Global;
@@ -322,7 +323,10 @@ impl<D: Disk> Running<D> {
     }
 
     /// What it has committed is printed.
-    pub(crate) fn print(&self, outside: &mut Outside) -> Result<(), NoMemory> {
+    pub(crate) fn print(&self, outside: &mut Outside) -> Result<(), NoMemory>
+        ensures net { outside.new.net ≡ outside.old.net }
+        ensures egress { outside.new.egress ≡ outside.old.egress }
+    {
         self.member().print(outside)
     }
 
