@@ -2,11 +2,11 @@
 ghost use Rattle.std.specs.Prelude.{◌≡◌, IfOk};
 ghost use Rattle.service_phases.specs.Stages.{IsIdle};
 
-use crate::outside::Outside;
 use crate::site::{MemberId, Site};
 use cl_base::{Disk, Entry, MemberFault, NoMemory};
 use consensus_agent::Agent;
 use recording_log::SnapshotAt;
+use run_outside::Outside;
 use std::marker::Model;
 
 /// What is told of a running member.
@@ -76,7 +76,10 @@ impl<D: Disk> Member<D> {
     }
 
     /// What it has committed is printed.
-    pub(crate) fn print(&self, outside: &mut Outside) -> Result<(), NoMemory> {
+    pub(crate) fn print(&self, outside: &mut Outside) -> Result<(), NoMemory>
+        ensures net { outside.new.net ≡ outside.old.net }
+        ensures egress { outside.new.egress ≡ outside.old.egress }
+    {
         outside.print(
             self.agent.consumed(),
             self.agent.ahead(),

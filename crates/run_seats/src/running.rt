@@ -5,13 +5,13 @@ ghost use Rattle.service_phases.specs.Stages.{IsIdle};
 
 use crate::calls::Call;
 use crate::member::{Member, Shown};
-use crate::outside::Outside;
 use crate::site::{MemberId, Site};
 use cl_base::{Disk, Entry, List, MemberFault, NoMemory};
 use consensus_agent::{AgentFault, Fed};
 use egress::Sent;
 use ingress::Outcome;
 use lanes::Lanes;
+use run_outside::Outside;
 use run_phases::Free;
 use service_container::NoGate;
 use std::alloc::Global;
@@ -206,6 +206,7 @@ impl<D: Disk> Idle<D> {
     }
 
     /// Calls the member.
+    #[tactic(auto, using(crate::proofs::Calling::idle_on))]
     fn ask(
         self,
         outside: &mut Outside,
@@ -263,6 +264,7 @@ impl<D: Disk> Idle<D> {
 
 impl<D: Disk> Going<D> {
     /// Calls the member, and feeds its phase what the call left.
+    #[tactic(auto, using(crate::proofs::Calling::free_on, crate::proofs::Calling::going_on))]
     fn ask<R: Threads + Wait + Copy + Send + Sync + 'static>(
         self,
         rt: &R,
@@ -335,7 +337,10 @@ impl<D: Disk> Running<D> {
     }
 
     /// What it has committed is printed.
-    pub(crate) fn print(&self, outside: &mut Outside) -> Result<(), NoMemory> {
+    pub(crate) fn print(&self, outside: &mut Outside) -> Result<(), NoMemory>
+        ensures net { outside.new.net ≡ outside.old.net }
+        ensures egress { outside.new.egress ≡ outside.old.egress }
+    {
         self.member().print(outside)
     }
 
