@@ -76,12 +76,7 @@ impl Outside {
 
     /// What a member has committed is printed: so many entries of its log, of which those from `from` on stand in `ahead`.
     /// Where some of the entries that are missing aren't there, nothing is printed. After NoMemory the run is given up.
-    pub fn print(
-        &mut self,
-        from: u64,
-        ahead: &[Entry],
-        commit: u64,
-    ) -> Result<(), NoMemory>
+    pub fn print(&mut self, from: u64, ahead: &[Entry], commit: u64) -> Result<(), NoMemory>
         ensures printed { OnOk result (self.new.printed ≡ self.old.printed ++ newly from ahead.now commit (length self.old.printed)) }
         ensures net { self.new.net ≡ self.old.net }
         ensures egress { self.new.egress ≡ self.old.egress }
