@@ -1,5 +1,5 @@
 -- What the members of a run give to the outside, and what becomes of it there.
-use Rattle.std.specs.Prelude.{ℕ, ◌-◌, nat_le, if◌then◌else◌, List, [], ◌++◌, fold, length, take, drop}
+use Rattle.std.specs.Prelude.{ℕ, ◌-◌, nat_le, if◌then◌else◌, List, [], fold, length, take, drop}
 use Rattle.cl_base.specs.declared.entry.Entry.{Entry}
 use Rattle.sbe_consensus.specs.declared.packet.Outgoing.{Outgoing}
 use Rattle.network.specs.Net.{NetSeen, sent}
