@@ -206,7 +206,6 @@ impl<D: Disk> Idle<D> {
     }
 
     /// Calls the member.
-    #[tactic(auto, using(crate::proofs::Calling::idle_on))]
     fn ask(
         self,
         outside: &mut Outside,
@@ -264,7 +263,6 @@ impl<D: Disk> Idle<D> {
 
 impl<D: Disk> Going<D> {
     /// Calls the member, and feeds its phase what the call left.
-    #[tactic(auto, using(crate::proofs::Calling::free_on, crate::proofs::Calling::going_on))]
     fn ask<R: Threads + Wait + Copy + Send + Sync + 'static>(
         self,
         rt: &R,
