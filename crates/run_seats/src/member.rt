@@ -30,7 +30,7 @@ pub struct Shown<'a> {
 /// go through all that an agent has.
 #[derive(Drop)]
 pub(crate) struct Member<D: Disk> {
-    pub(crate) agent: Agent<D>,
+    pub(crate) agent: Box<Agent<D>>,
 }
 
 impl<D: Disk> Model for Member<D> {
@@ -39,7 +39,7 @@ impl<D: Disk> Model for Member<D> {
 
     ghost Value = { Stage };
 
-    ghost view = { λ m. stage m.agent.services m.agent.module m.agent.core m.agent.over };
+    ghost view = { λ m. stage m.agent.value.services m.agent.value.module m.agent.value.core m.agent.value.over };
 }
 
 impl<D: Disk> Member<D> {
@@ -54,7 +54,10 @@ impl<D: Disk> Member<D> {
     {
         let MemberId { member, members } = id;
         match Agent::mount(site.alloc, member, members, site.kinds(), disk, now) {
-            Ok(agent) => Ok(Member { agent }),
+            Ok(agent) => match Box::new(site.alloc, agent) {
+                Ok(agent) => Ok(Member { agent }),
+                Err(failed) => Err((failed.value.stop(), MemberFault::NoMemory)),
+            },
             Err(back) => Err(back),
         }
     }
@@ -109,6 +112,6 @@ impl<D: Disk> Member<D> {
     /// The disk as it stands; all else is gone.
     pub(crate) fn into_disk(self) -> D {
         let Member { agent } = self;
-        agent.stop()
+        Box::into_inner(agent).stop()
     }
 }
