@@ -3,8 +3,9 @@ use crate::clock::Clock;
 use cl_base::{Disk, List, NoMemory};
 use ingress::Outcome;
 use joined_clients::Joined;
+use run_outside::Outside;
 use run_report::Reply;
-use run_seats::{Outside, Seat, Site, Took};
+use run_seats::{Seat, Site, Took};
 use std::alloc::Global;
 
 /// How many clients a scenario may name.

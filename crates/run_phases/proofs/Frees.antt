@@ -2,18 +2,12 @@
 use Rattle.std.proofs.Common.{◌≡◌, ℕ, ◌≤◌, ◌<◌, ◌^◌, Bool, true, false, List, [], ◌∷◌, length, refl, sym, ap, ◌∙◌, arith}
 use Rattle.commit_counter.specs.Ends.{Fed}
 use Rattle.service_container.specs.declared.container.Served.{Served}
-use Rattle.service_phases.specs.declared.hand.Hand.{Hand}
 use Rattle.service_phases.specs.Pairs.{Each, Each2}
 use Rattle.service_phases.specs.Feeds.{IsFed, MayFinish, Finishes, HasCommit, FedOn}
 use Rattle.service_phases.specs.Phases.{Ran}
 use Rattle.service_phases.specs.Stages.{Stage, Runs, HasRun, StartsAt, PollsFor}
-use Rattle.service_phases.specs.Threads.{HandFor, IsHand}
-use Rattle.run_phases.proofs.Lists.{same_length, each_weaker, each_after}
-use Rattle.run_phases.proofs.Stages.{finish_ends, has_run, Same}
-
-module _ {G : Type 0} where
-  pub are_hands : (jobs : List Served) (hands : List (Hand G)) → Each2 HandFor jobs hands → Each IsHand hands
-  are_hands jobs hands h = each_after HandFor IsHand (λ s k x. x.2) jobs hands h
+use Rattle.run_phases.proofs.Lists.{each_weaker}
+use Rattle.run_phases.proofs.Stages.{finish_ends, has_run}
 
 -- feeds that run may be finished
 pub may_finish : (first commit : ℕ) (feeds : List Fed) → Each (IsFed first commit) feeds → Each MayFinish feeds
@@ -67,10 +61,6 @@ runs_on s commit feeds mids jobs h on = record {
   pollers = beside_two (FedOn commit) (λ f t. PollsFor f t.poller) (λ f t. PollsFor f t.poller) (λ f g t b p. record { name = p.name ∙ sym (ap (λ (z : Fed). z.name) b.feed); start = p.start ∙ sym (fed_on_start commit f g b); list = p.list }) feeds mids jobs on h.pollers;
   containers = h.containers;
 }
-
--- as many jobs as containers were lent
-pub as_many : (s : Stage) (feeds : List Fed) (jobs : List Served) → Runs s feeds jobs → length s.lending.lent ≡ length jobs
-as_many s feeds jobs h = same_length Same s.lending.lent jobs h.containers
 
 pub fed_due : (first commit : ℕ) (feeds : List Fed) → Each (IsFed first commit) feeds → Each (λ f. f.commit ≤ commit) feeds
 fed_due first commit feeds h = each_weaker (IsFed first commit) (λ f. f.commit ≤ commit) (λ f k. k.due) feeds h

@@ -54,53 +54,8 @@ pub each_map : {A B : Type 0} (f : A → B) (P : B → Type 0) (xs : List A) →
 each_map f P [] h = tt
 each_map f P (x ∷ xs) h = (h.0, each_map f P xs h.1)
 
-pub map_snoc : {A B : Type 0} (f : A → B) (xs : List A) (x : A) → map f (xs ++ x ∷ []) ≡ map f xs ++ f x ∷ []
-map_snoc f [] x = refl
-map_snoc f (y ∷ ys) x = ap (λ l. f y ∷ l) (map_snoc f ys x)
-
-pub each_front : {A : Type 0} (P : A → Type 0) (xs : List A) (x : A) → Each P (xs ++ x ∷ []) → Each P xs × P x
-each_front P [] x h = (tt, h.0)
-each_front P (a ∷ xs) x h = let k = each_front P xs x h.1 in ((h.0, k.0), k.1)
-
--- a list with a last place, split there
-pub split1 : {A : Type 0} (P : A → Type 0) (all xs : List A) (x : A) → all ≡ xs ++ x ∷ [] → Each P all → Each P xs × P x
-split1 P all xs x e h = each_front P xs x (subst (Each P) e h)
-
-pub each2_snoc : {A B : Type 0} (R : A → B → Type 0) (xs : List A) (ys : List B) (x : A) (y : B) → Each2 R xs ys → R x y → Each2 R (xs ++ x ∷ []) (ys ++ y ∷ [])
-each2_snoc R [] [] x y h r = (r, tt)
-each2_snoc R [] (b ∷ ys) x y h r = absurd h
-each2_snoc R (a ∷ xs) [] x y h r = absurd h
-each2_snoc R (a ∷ xs) (b ∷ ys) x y h r = (h.0, each2_snoc R xs ys x y h.1 r)
-
-pub each2_front : {A B : Type 0} (R : A → B → Type 0) (xs : List A) (ys : List B) (x : A) (y : B) → Each2 R (xs ++ x ∷ []) (ys ++ y ∷ []) → Each2 R xs ys × R x y
-each2_front R [] [] x y h = (tt, h.0)
-each2_front R [] (b ∷ []) x y h = absurd h.1
-each2_front R [] (b ∷ (d ∷ ys)) x y h = absurd h.1
-each2_front R (a ∷ []) [] x y h = absurd h.1
-each2_front R (a ∷ (d ∷ xs)) [] x y h = absurd h.1
-each2_front R (a ∷ xs) (b ∷ ys) x y h = let k = each2_front R xs ys x y h.1 in ((h.0, k.0), k.1)
-
-pub split2 : {A B : Type 0} (R : A → B → Type 0) (all : List A) (alls : List B) (xs : List A) (ys : List B) (x : A) (y : B) → all ≡ xs ++ x ∷ [] → alls ≡ ys ++ y ∷ [] → Each2 R all alls → Each2 R xs ys × R x y
-split2 {A} {B} R all alls xs ys x y e f h = let F : List A × List B → Type 0 = λ z. Each2 R z.0 z.1 in each2_front R xs ys x y (subst F (λ i. (e i, f i)) h)
-
-pub join2 : {A B : Type 0} (R : A → B → Type 0) (all : List A) (alls : List B) (xs : List A) (ys : List B) (x : A) (y : B) → all ≡ xs ++ x ∷ [] → alls ≡ ys ++ y ∷ [] → Each2 R xs ys → R x y → Each2 R all alls
-join2 {A} {B} R all alls xs ys x y e f h r = let F : List A × List B → Type 0 = λ z. Each2 R z.0 z.1 in subst F (λ i. (sym e i, sym f i)) (each2_snoc R xs ys x y h r)
-
 pub each2_weaker : {A B : Type 0} (R S : A → B → Type 0) → ((x : A) (y : B) → R x y → S x y) → (xs : List A) (ys : List B) → Each2 R xs ys → Each2 S xs ys
 each2_weaker R S f [] [] h = tt
 each2_weaker R S f [] (y ∷ ys) h = absurd h
 each2_weaker R S f (x ∷ xs) [] h = absurd h
 each2_weaker R S f (x ∷ xs) (y ∷ ys) h = (f x y h.0, each2_weaker R S f xs ys h.1)
-
--- where the second list has a last place, so has the first
-pub unsnoc2 : {A B : Type 0} (R : A → B → Type 0) (js : List A) (ys : List B) (y : B) → Each2 R js (ys ++ y ∷ []) → (xs : List A) × (x : A) × (js ≡ xs ++ x ∷ []) × Each2 R xs ys × R x y
-unsnoc2 R [] [] y h = absurd h
-unsnoc2 R [] (b ∷ ys) y h = absurd h
-unsnoc2 R (a ∷ []) [] y h = ([], a, refl, tt, h.0)
-unsnoc2 R (a ∷ (d ∷ js)) [] y h = absurd h.1
-unsnoc2 R (a ∷ js) (b ∷ ys) y h = let k = unsnoc2 R js ys y h.1 in (a ∷ k.0, k.1, ap (λ l. a ∷ l) k.2, (h.0, k.3), k.4)
-
-pub nothing2 : {A B : Type 0} (R : A → B → Type 0) (js : List A) (ys : List B) → ys ≡ [] → Each2 R js ys → js ≡ []
-nothing2 R [] ys e h = refl
-nothing2 R (a ∷ js) [] e h = absurd h
-nothing2 R (a ∷ js) (b ∷ ys) e h = absurd (let l = ap length e in omega arith)

@@ -128,9 +128,9 @@ has_run s feeds ends jobs served h e r = record {
 abbrev pub left : {A : Type 0} → List A → List A → List A
 left xs ys = take (length xs) (ys ++ drop (length ys) xs)
 
-pub run_left : (s : Stage) (feeds ends : List Fed) (jobs served : List Served) → Runs s feeds jobs → Each2 (FedToEnd s.commit) feeds ends → Each2 Ran jobs served → HasRun s ends (left jobs served)
-run_left s feeds ends jobs served h e r =
-    subst (HasRun s ends) (sym (written jobs served (same_length Ran jobs served r))) (has_run s feeds ends jobs served h (fed_ends s.commit feeds ends e) r)
+-- the jobs that were lent came back
+pub run_back : (s : Stage) (feeds ends : List Fed) (lent jobs served : List Served) → Runs s feeds jobs → Each2 (FedToEnd s.commit) feeds ends → lent ≡ jobs → Each2 Ran lent served → HasRun s ends served
+run_back s feeds ends lent jobs served h e same r = has_run s feeds ends jobs served h (fed_ends s.commit feeds ends e) (subst (λ l. Each2 Ran l served) same r)
 
 -- feeds that were fed on and then finished
 pub fed_to_end : (commit : ℕ) (feeds mids ends : List Fed) → Each2 (FedOn commit) feeds mids → Each2 Finishes mids ends → Each2 (FedToEnd commit) feeds (left mids ends)

@@ -1,9 +1,8 @@
-//! The phases of a member, in which its services consume what is committed, each on a thread of its own: phases of one
+//! The phases of a member, in which its services consume what is committed, each by the thread of its lane: phases of one
 //! call, and free ones, which go on beside further calls of the agent.
 #![tactic(auto)]
 
 mod free;
-mod hands;
 mod phase;
 
 pub use free::{Free, free_begin, free_drop, free_end, free_feed};

@@ -3,11 +3,11 @@ ghost use Rattle.std.specs.Prelude.{◌≤◌, ◌^◌};
 ghost use Rattle.run_seats.specs.Calls.{Called};
 
 use crate::member::Member;
-use crate::outside::Outside;
-use cl_base::{Disk, List, NoMemory};
+use cl_base::{Disk, List};
 use consensus_agent::{AgentFault, Delivered};
 use egress::Sent;
 use ingress::Outcome;
+use run_outside::Outside;
 use sbe_consensus::Outgoing;
 
 /// What a running member is asked.
@@ -32,16 +32,6 @@ pub(crate) struct Call<'a> {
     pub(crate) now: u64,
     pub(crate) asking: Asking<'a>,
     ghost time: { now ≤ 2 ^ 60 },
-}
-
-impl Outside {
-    /// What a client gets that no entry owes goes to its stream.
-    fn answer(&mut self, answer: Option<Sent>) -> Result<(), NoMemory> {
-        match answer {
-            Some(sent) => self.egress.send(sent),
-            None => Ok(()),
-        }
-    }
 }
 
 impl<D: Disk> Member<D> {

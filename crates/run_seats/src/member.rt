@@ -2,11 +2,11 @@
 ghost use Rattle.std.specs.Prelude.{◌≡◌, IfOk};
 ghost use Rattle.service_phases.specs.Stages.{IsIdle};
 
-use crate::outside::Outside;
 use crate::site::{MemberId, Site};
 use cl_base::{Disk, Entry, MemberFault, NoMemory};
 use consensus_agent::Agent;
 use recording_log::SnapshotAt;
+use run_outside::Outside;
 use std::marker::Model;
 
 /// What is told of a running member.
@@ -30,7 +30,7 @@ pub struct Shown<'a> {
 /// go through all that an agent has.
 #[derive(Drop)]
 pub(crate) struct Member<D: Disk> {
-    pub(crate) agent: Agent<D>,
+    pub(crate) agent: Box<Agent<D>>,
 }
 
 impl<D: Disk> Model for Member<D> {
@@ -39,7 +39,7 @@ impl<D: Disk> Model for Member<D> {
 
     ghost Value = { Stage };
 
-    ghost view = { λ m. stage m.agent.services m.agent.module m.agent.core m.agent.over };
+    ghost view = { λ m. stage m.agent.value.services m.agent.value.module m.agent.value.core m.agent.value.over };
 }
 
 impl<D: Disk> Member<D> {
@@ -54,7 +54,10 @@ impl<D: Disk> Member<D> {
     {
         let MemberId { member, members } = id;
         match Agent::mount(site.alloc, member, members, site.kinds(), disk, now) {
-            Ok(agent) => Ok(Member { agent }),
+            Ok(agent) => match Box::new(site.alloc, agent) {
+                Ok(agent) => Ok(Member { agent }),
+                Err(failed) => Err((failed.value.stop(), MemberFault::NoMemory)),
+            },
             Err(back) => Err(back),
         }
     }
@@ -73,7 +76,10 @@ impl<D: Disk> Member<D> {
     }
 
     /// What it has committed is printed.
-    pub(crate) fn print(&self, outside: &mut Outside) -> Result<(), NoMemory> {
+    pub(crate) fn print(&self, outside: &mut Outside) -> Result<(), NoMemory>
+        ensures net { outside.new.net ≡ outside.old.net }
+        ensures egress { outside.new.egress ≡ outside.old.egress }
+    {
         outside.print(
             self.agent.consumed(),
             self.agent.ahead(),
@@ -106,6 +112,6 @@ impl<D: Disk> Member<D> {
     /// The disk as it stands; all else is gone.
     pub(crate) fn into_disk(self) -> D {
         let Member { agent } = self;
-        agent.stop()
+        Box::into_inner(agent).stop()
     }
 }

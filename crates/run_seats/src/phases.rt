@@ -1,5 +1,5 @@
 // The phases of a running member.
-ghost use Rattle.std.specs.Prelude.{◌≡◌, true, false, length, OnOk, IfOk};
+ghost use Rattle.std.specs.Prelude.{◌≡◌, [], true, false, OnOk, IfOk};
 ghost use Rattle.run_phases.specs.Frees.{IsFree, IsGoing};
 ghost use Rattle.service_phases.specs.Feeds.{HasCommit};
 ghost use Rattle.service_phases.specs.Pairs.{Each};
@@ -9,22 +9,12 @@ use crate::member::Member;
 use cl_base::{Disk, List, NoMemory};
 use consensus_agent::{AgentFault, Fed};
 use egress::Sent;
+use lanes::Lanes;
 use run_phases::{Free, free_begin, free_drop, free_end, free_feed, run_phase};
 use service_container::NoGate;
 use std::alloc::Global;
 use std::sync::Wait;
 use std::thread::Threads;
-
-/// A gate for each of so many services.
-fn gates(alloc: Global, services: usize) -> Result<List<NoGate>, NoMemory>
-    ensures { IfOk result (λ gates. length gates ≡ services) }
-{
-    let mut gates = List::new(alloc);
-    for _ in 0..services {
-        gates.push(NoGate)?;
-    }
-    Ok(gates)
-}
 
 impl<D: Disk> Member<D> {
     /// A whole phase: the services consume what is committed. Gives the records that go out.
@@ -32,26 +22,29 @@ impl<D: Disk> Member<D> {
         &mut self,
         rt: &R,
         alloc: Global,
+        lanes: &mut Lanes<NoGate>,
     ) -> Result<List<Sent>, AgentFault>
         requires idle { IsIdle self.old }
+        requires none { lanes.old ≡ [] }
         ensures idle { OnOk result (IsIdle self.new) }
+        ensures none { lanes.new ≡ [] }
     {
-        run_phase(rt, alloc, &mut self.agent, &NoGate)
+        run_phase(rt, alloc, &mut self.agent, lanes)
     }
 
-    /// A phase begins that goes on over calls, with no gates.
+    /// A phase begins that goes on over calls, on these lanes.
     pub(crate) fn begin<R: Threads + Wait + Copy + Send + Sync + 'static>(
         &mut self,
         rt: &R,
-        alloc: Global,
+        lanes: Lanes<NoGate>,
     ) -> Result<Free<NoGate>, NoMemory>
         requires idle { IsIdle self.old }
+        requires none { lanes ≡ [] }
         ensures free { IfOk result (λ p. IsFree self.new p) }
         ensures going { IfOk result (λ p. IsGoing self.new p.feeds) }
         ensures on { IfOk result (λ _. self.new.over ≡ false) }
     {
-        let gates = gates(alloc, self.agent.at_hand())?;
-        free_begin(rt, alloc, &mut self.agent, gates)
+        free_begin(rt, &mut self.agent, lanes)
     }
 
     /// Feeds a phase what is committed. Over exactly where it is over.
@@ -72,16 +65,17 @@ impl<D: Disk> Member<D> {
         free_feed(rt, alloc, &mut self.agent, phase)
     }
 
-    /// A phase ends. Gives the records that go out.
+    /// A phase ends. Gives the records that go out, and the lanes.
     pub(crate) fn end<R: Threads + Wait + Copy + Send + Sync + 'static>(
         &mut self,
         rt: &R,
         alloc: Global,
         phase: Free<NoGate>,
-    ) -> Result<List<Sent>, AgentFault>
+    ) -> Result<(List<Sent>, Lanes<NoGate>), AgentFault>
         requires free { IsFree self.old phase }
         requires going { IsGoing self.old phase.feeds }
         ensures idle { OnOk result (IsIdle self.new) }
+        ensures none { IfOk result (λ p. p.1 ≡ []) }
     {
         free_end(rt, alloc, &mut self.agent, phase)
     }

@@ -1,15 +1,17 @@
 // A running member, between its phases and in one that goes on.
+ghost use Rattle.std.specs.Prelude.{◌≡◌, []};
 ghost use Rattle.run_phases.specs.Frees.{IsFree, IsGoing};
 ghost use Rattle.service_phases.specs.Stages.{IsIdle};
 
 use crate::calls::Call;
 use crate::member::{Member, Shown};
-use crate::outside::Outside;
 use crate::site::{MemberId, Site};
 use cl_base::{Disk, Entry, List, MemberFault, NoMemory};
 use consensus_agent::{AgentFault, Fed};
 use egress::Sent;
 use ingress::Outcome;
+use lanes::Lanes;
+use run_outside::Outside;
 use run_phases::Free;
 use service_container::NoGate;
 use std::alloc::Global;
@@ -21,17 +23,19 @@ use std::thread::Threads;
 #[derive(Drop)]
 pub(crate) struct Idle<D: Disk> {
     member: Member<D>,
+    /// The threads of its services.
+    lanes: Lanes<NoGate>,
 }
 
 impl<D: Disk> Model for Idle<D> {
-    ghost use Rattle.std.specs.Prelude.{ℕ};
+    ghost use Rattle.std.specs.Prelude.{◌≡◌, ℕ, []};
     ghost use Rattle.service_phases.specs.Stages.{IsIdle};
 
     ghost Value = { ℕ };
 
     ghost view = { λ m. m.member.commit };
 
-    ghost invariant = { λ m. IsIdle m.member };
+    ghost invariant = { λ m. IsIdle m.member × (m.lanes ≡ []) };
 }
 
 /// A running member whose phase goes on over its calls. All that it has committed is published. Contracts see its commit.
@@ -172,7 +176,7 @@ fn end<R: Threads + Wait + Copy + Send + Sync + 'static, D: Disk>(
 {
     let mut member = member;
     match member.end(rt, outside.alloc, phase) {
-        Ok(records) => Idle { member }.send(outside, records),
+        Ok((records, lanes)) => Idle { member, lanes }.send(outside, records),
         Err(fault) => Err(Failed { member, fault }),
     }
 }
@@ -182,18 +186,23 @@ impl<D: Disk> Idle<D> {
     fn send(self, outside: &mut Outside, records: List<Sent>) -> Result<Idle<D>, Failed<D>> {
         match outside.send(records) {
             Ok(()) => Ok(self),
-            Err(NoMemory) => Err(Failed {
-                member: self.into_member(),
-                fault: AgentFault::NoMemory,
-            }),
+            Err(NoMemory) => {
+                let (member, _lanes) = self.into_parts();
+                Err(Failed {
+                    member,
+                    fault: AgentFault::NoMemory,
+                })
+            }
         }
     }
 
-    fn into_member(self) -> Member<D>
-        ensures { IsIdle result }
+    /// The member and its lanes.
+    fn into_parts(self) -> (Member<D>, Lanes<NoGate>)
+        ensures idle { IsIdle result.0 }
+        ensures none { result.1 ≡ [] }
     {
-        let Idle { member } = self;
-        member
+        let Idle { member, lanes } = self;
+        (member, lanes)
     }
 
     /// Calls the member.
@@ -202,9 +211,10 @@ impl<D: Disk> Idle<D> {
         outside: &mut Outside,
         call: Call<'_>,
     ) -> Result<(Idle<D>, Option<Outcome>), Failed<D>> {
-        let mut member = self.into_member();
+        let (member, lanes) = self.into_parts();
+        let mut member = member;
         match member.ask(outside, call) {
-            Ok(outcome) => Ok((Idle { member }, outcome)),
+            Ok(outcome) => Ok((Idle { member, lanes }, outcome)),
             Err(fault) => Err(Failed { member, fault }),
         }
     }
@@ -215,9 +225,11 @@ impl<D: Disk> Idle<D> {
         rt: &R,
         outside: &mut Outside,
     ) -> Result<Idle<D>, Failed<D>> {
-        let mut member = self.into_member();
-        match member.phase(rt, outside.alloc) {
-            Ok(records) => Idle { member }.send(outside, records),
+        let (member, lanes) = self.into_parts();
+        let mut member = member;
+        let mut lanes = lanes;
+        match member.phase(rt, outside.alloc, &mut lanes) {
+            Ok(records) => Idle { member, lanes }.send(outside, records),
             Err(fault) => Err(Failed { member, fault }),
         }
     }
@@ -228,8 +240,9 @@ impl<D: Disk> Idle<D> {
         rt: &R,
         alloc: Global,
     ) -> Result<Going<D>, Failed<D>> {
-        let mut member = self.into_member();
-        let mut phase = match member.begin(rt, alloc) {
+        let (member, lanes) = self.into_parts();
+        let mut member = member;
+        let mut phase = match member.begin(rt, lanes) {
             Ok(phase) => phase,
             Err(NoMemory) => {
                 return Err(Failed {
@@ -322,7 +335,10 @@ impl<D: Disk> Running<D> {
     }
 
     /// What it has committed is printed.
-    pub(crate) fn print(&self, outside: &mut Outside) -> Result<(), NoMemory> {
+    pub(crate) fn print(&self, outside: &mut Outside) -> Result<(), NoMemory>
+        ensures net { outside.new.net ≡ outside.old.net }
+        ensures egress { outside.new.egress ≡ outside.old.egress }
+    {
         self.member().print(outside)
     }
 
@@ -384,10 +400,10 @@ impl<D: Disk> Running<D> {
     /// Lets so many changing calls of the member's disk pass.
     pub(crate) fn fuse(self, calls: u64) -> Running<D> {
         match self.state {
-            State::Idle(Idle { member }) => {
+            State::Idle(Idle { member, lanes }) => {
                 let mut member = member;
                 member.fuse(calls);
-                Running::idle(Idle { member })
+                Running::idle(Idle { member, lanes })
             }
             State::Going(Going { member, phase }) => {
                 let mut member = member;
@@ -403,7 +419,10 @@ impl<D: Disk> Running<D> {
         rt: &R,
     ) -> Stopped<D> {
         match self.state {
-            State::Idle(Idle { member }) => Stopped { member },
+            State::Idle(Idle { member, lanes }) => {
+                lanes.close(rt);
+                Stopped { member }
+            }
             State::Going(Going { member, phase }) => {
                 let mut member = member;
                 member.drop_phase(rt, phase);
@@ -420,8 +439,11 @@ pub(crate) fn start<D: Disk>(
     disk: D,
     now: u64,
 ) -> Result<Running<D>, (D, MemberFault)> {
+    let Ok(lanes) = Lanes::new(site.alloc, NoGate) else {
+        return Err((disk, MemberFault::NoMemory));
+    };
     match Member::mount(site, id, disk, now) {
-        Ok(member) => Ok(Running::idle(Idle { member })),
+        Ok(member) => Ok(Running::idle(Idle { member, lanes })),
         Err(back) => Err(back),
     }
 }

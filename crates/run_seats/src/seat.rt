@@ -3,11 +3,11 @@ ghost use Rattle.std.specs.Prelude.{◌≡◌, ◌+◌, ◌≤◌, ◌<◌, ◌^
 
 use crate::calls::{Asking, Call};
 use crate::mounted::Mounted;
-use crate::outside::Outside;
 use crate::running::{Failed, Running, Stopped, start};
 use crate::site::{MemberId, Site};
 use cl_base::{Choice, Disk, Entry, List, MemberFault, NoMemory};
 use ingress::Outcome;
+use run_outside::Outside;
 use run_report::Reply;
 use std::alloc::Global;
 use std::marker::Model;
@@ -299,7 +299,10 @@ impl<D: Disk + Drop> Seat<D> {
     }
 
     /// What a member that runs has committed is printed.
-    pub fn print(&self, outside: &mut Outside) -> Result<(), NoMemory> {
+    pub fn print(&self, outside: &mut Outside) -> Result<(), NoMemory>
+        ensures net { outside.new.net ≡ outside.old.net }
+        ensures egress { outside.new.egress ≡ outside.old.egress }
+    {
         match &self.home {
             Home::Up(running) => running.print(outside),
             _ => Ok(()),

@@ -8,4 +8,4 @@ invariant-loop g l =
     Runs (stage l.agent.services l.agent.module l.agent.core l.agent.over) l.feeds l.jobs
     × IsFeeding (stage l.agent.services l.agent.module l.agent.core l.agent.over) l.feeds
     × ((stage l.agent.services l.agent.module l.agent.core l.agent.over).first ≤ (stage l.agent.services l.agent.module l.agent.core l.agent.over).commit)
-    × (l.agent.services.kept ≡ []) × (l.agent.over ≡ false)
+    × (l.agent.services.kept ≡ []) × (l.agent.over ≡ false) × (l.lanes ≡ [])

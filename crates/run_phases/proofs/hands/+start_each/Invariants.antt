@@ -1,5 +1,0 @@
-use Rattle.std.proofs.Common.{length}
-use Rattle.run_phases.proofs.hands.+start_each.Given as goal
-
-abbrev pub decreases-start_each : goal.decreases-start_each
-decreases-start_each g l = length l.jobs.now.items
