@@ -19,8 +19,6 @@ mod sent;
 mod sessions;
 mod status;
 mod stream;
-#[cfg(test)]
-mod tests;
 mod text;
 mod top;
 mod whole;
