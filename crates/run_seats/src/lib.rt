@@ -2,6 +2,7 @@
 //! is stopped keeps its disk.
 #![tactic(auto)]
 
+mod answer;
 mod calls;
 mod member;
 mod mounted;

@@ -1,12 +1,14 @@
 // A running member, between its phases and in one that goes on.
 ghost use Rattle.std.specs.Prelude.{◌≡◌, []};
+ghost use Rattle.cluster_backup.specs.Spelling.{HasSpelling};
 ghost use Rattle.run_phases.specs.Frees.{IsFree, IsGoing};
 ghost use Rattle.service_phases.specs.Stages.{IsIdle};
 
 use crate::calls::Call;
 use crate::member::{Member, Shown};
 use crate::site::{MemberId, Site};
-use cl_base::{Disk, Entry, List, MemberFault, NoMemory};
+use cl_base::{Bytes, Disk, Entry, List, MemberFault, NoMemory};
+use cluster_backup::BackupPacket;
 use consensus_agent::{AgentFault, Fed};
 use egress::Sent;
 use ingress::Outcome;
@@ -219,6 +221,21 @@ impl<D: Disk> Idle<D> {
         }
     }
 
+    /// Answers a backup's packet.
+    fn answer(
+        self,
+        alloc: Global,
+        query: &BackupPacket,
+    ) -> Result<(Idle<D>, List<Bytes>), Failed<D>>
+        requires { HasSpelling query.now }
+    {
+        let mut member = self.into_member();
+        match member.answer(alloc, query) {
+            Ok(packets) => Ok((Idle { member }, packets)),
+            Err(fault) => Err(Failed { member, fault }),
+        }
+    }
+
     /// A whole phase: the services consume what is committed, and what is owed is sent.
     fn phase<R: Threads + Wait + Copy + Send + Sync + 'static>(
         self,
@@ -276,6 +293,26 @@ impl<D: Disk> Going<D> {
                 let going = feed(rt, outside, member, phase)?;
                 Ok((going, outcome))
             }
+            Err(fault) => {
+                member.drop_phase(rt, phase);
+                Err(Failed { member, fault })
+            }
+        }
+    }
+
+    /// Answers a backup's packet.
+    fn answer<R: Threads + Wait + Copy + Send + Sync + 'static>(
+        self,
+        rt: &R,
+        alloc: Global,
+        query: &BackupPacket,
+    ) -> Result<(Going<D>, List<Bytes>), Failed<D>>
+        requires { HasSpelling query.now }
+    {
+        let Going { member, phase } = self;
+        let mut member = member;
+        match member.answer(alloc, query) {
+            Ok(packets) => Ok((Going { member, phase }, packets)),
             Err(fault) => {
                 member.drop_phase(rt, phase);
                 Err(Failed { member, fault })
@@ -357,6 +394,27 @@ impl<D: Disk> Running<D> {
             State::Going(going) => {
                 let (going, outcome) = going.ask(rt, outside, call)?;
                 Ok((Running::going(going), outcome))
+            }
+        }
+    }
+
+    /// Answers a backup's packet.
+    pub(crate) fn answer<R: Threads + Wait + Copy + Send + Sync + 'static>(
+        self,
+        rt: &R,
+        alloc: Global,
+        query: &BackupPacket,
+    ) -> Result<(Running<D>, List<Bytes>), Failed<D>>
+        requires { HasSpelling query.now }
+    {
+        match self.state {
+            State::Idle(idle) => {
+                let (idle, packets) = idle.answer(alloc, query)?;
+                Ok((Running::idle(idle), packets))
+            }
+            State::Going(going) => {
+                let (going, packets) = going.answer(rt, alloc, query)?;
+                Ok((Running::going(going), packets))
             }
         }
     }
