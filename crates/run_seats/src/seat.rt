@@ -3,8 +3,9 @@ ghost use Rattle.std.specs.Prelude.{◌≡◌, ◌+◌, ◌≤◌, ◌<◌, ◌^
 
 use crate::calls::{Asking, Call};
 use crate::mounted::Mounted;
-use crate::running::{Failed, Running, Stopped, start};
+use crate::running::{Running, start};
 use crate::site::{MemberId, Site};
+use crate::stopped::{Failed, Stopped};
 use cl_base::{Bytes, Choice, Disk, Entry, List, MemberFault, NoMemory};
 use cluster_backup::decode_backup;
 use ingress::Outcome;
