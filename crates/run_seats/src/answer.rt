@@ -1,5 +1,5 @@
 // What a member answers a backup.
-ghost use Rattle.std.specs.Prelude.{◌≡◌, ◌+◌, ◌<◌, ◌≤◌, All, IfOk, length};
+ghost use Rattle.std.specs.Prelude.{◌≡◌, ◌+◌, ◌<◌, ◌≤◌, ◌^◌, All, IfOk, length};
 ghost use Rattle.member_disk.specs.Changes.{HasSome, IsMemberOf};
 ghost use Rattle.cluster_backup.specs.Giving.{IsEvent};
 ghost use Rattle.cluster_backup.specs.Spelling.{HasSpelling};
@@ -59,6 +59,7 @@ impl<D: Disk> Member<D> {
     fn batch_from(&self, from: u64) -> u64
         ensures few { result ≤ 64 }
         ensures committed { 0 < result → from + result ≤ self.now.commit }
+        ensures numbered { from + result < 2 ^ 64 }
     {
         let committed = self.agent.commit().saturating_sub(from);
         batch_len(self.agent.index(), from).min(committed)
