@@ -1,10 +1,10 @@
 -- Why a run can't begin.
-use Rattle.std.specs.Prelude.{◌≡◌, ℕ, ◌<◌, Bool, List, length, Option, Some, None}
+use Rattle.std.specs.Prelude.{◌≡◌, ℕ, ◌<◌, ◌⊎◌, Bool, true, List, length, Option, Some, None}
 use Rattle.cl_base.specs.Disk.{DiskState}
 use Rattle.scenario.specs.Orders.{members_of}
 use Rattle.scenario.specs.declared.order.Order.{Order}
 use Rattle.cluster_run.specs.Disks.{RoseAt, IsUsedAt}
-use Rattle.cluster_run.specs.Needed.{disks_of}
+use Rattle.cluster_run.specs.Needed.{has_backup, disks_of}
 use Rattle.cluster_run.specs.Reading.{AreOrders, IsUnread}
 use Rattle.cluster_run.specs.declared.status.Status.{Status}
 use Rattle.cluster_run.specs.declared.status.Status.TheVariants.{Done, WriteFault, FewDisks, Used, DiskFault, NoMemory}
@@ -16,6 +16,10 @@ CannotBegin tells state faults members needed old new (Used disk file) = (disk <
 CannotBegin tells state faults members needed old new (DiskFault disk) = (disk < needed) × RoseAt faults old new disk
 CannotBegin tells state faults members needed old new NoMemory = Unit {0}
 CannotBegin tells state faults members needed old new _ = ⊥
+
+-- fewer disks than members, or as many, where some order of what a source gave is of the backup
+abbrev pub AreFew : Bool → List ℕ → ℕ → ℕ → Type 0
+AreFew told had members disks = (disks < members) ⊎ ((disks ≡ members) × (orders : List Order) × AreOrders told had orders × (has_backup orders ≡ true))
 
 -- why the first of these disks can't be found empty
 abbrev pub LookFails : {D : Type 0} → (D → Bool) → (D → DiskState) → (D → ℕ) → ℕ → List D → List D → Status → Type 0
@@ -31,14 +35,14 @@ IfLookFails tells state faults count old new (Some s) = LookFails tells state fa
 
 -- why the first of these disks, so many, can't be formatted
 abbrev pub FormatFails : {D : Type 0} → (D → ℕ) → ℕ → List D → List D → Status → Type 0
-FormatFails faults members old new (DiskFault member) = (member < members) × RoseAt faults old new member
-FormatFails faults members old new NoMemory = Unit {0}
-FormatFails faults members old new _ = ⊥
+FormatFails faults count old new (DiskFault disk) = (disk < count) × RoseAt faults old new disk
+FormatFails faults count old new NoMemory = Unit {0}
+FormatFails faults count old new _ = ⊥
 
 -- the same of an answer, where there is one
 abbrev pub IfFails : {D : Type 0} → (D → ℕ) → ℕ → List D → List D → Option Status → Type 0
-IfFails faults members old new None = Unit {0}
-IfFails faults members old new (Some s) = FormatFails faults members old new s
+IfFails faults count old new None = Unit {0}
+IfFails faults count old new (Some s) = FormatFails faults count old new s
 
 -- a run that began went to its end, or the sink failed
 abbrev pub IsEnd : Status → Type 0

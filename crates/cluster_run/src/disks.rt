@@ -35,13 +35,13 @@ fn first_used<D: Disk>(disk: &mut D) -> Result<Option<u32>, Trouble>
 
 /// Why a run can't begin on the first of these disks, in rising order, where a file of one isn't empty or can't be
 /// looked at.
-pub(crate) fn used<D: Disk>(disks: &mut [D], members: usize) -> Option<Status>
-    requires { members ≤ length disks.old }
-    ensures why { IfLookFails D.tells D.state D.fault_count members disks.old disks.new result }
+pub(crate) fn used<D: Disk>(disks: &mut [D], count: usize) -> Option<Status>
+    requires { count ≤ length disks.old }
+    ensures why { IfLookFails D.tells D.state D.fault_count count disks.old disks.new result }
     ensures looked { result ≡ None → (k : ℕ) → (d : D) → IsLookedAt D.tells D.is_honest D.state D.fault_count (slice_index_or disks.old k d) (slice_index_or disks.new k d) }
-    ensures unused { result ≡ None → AreUnused D.tells D.state disks.old members }
+    ensures unused { result ≡ None → AreUnused D.tells D.state disks.old count }
 {
-    for member in 0..members {
+    for member in 0..count {
         match first_used(&mut disks[member]) {
             Ok(None) => {}
             Ok(Some(file)) => {
@@ -62,11 +62,11 @@ pub(crate) fn used<D: Disk>(disks: &mut [D], members: usize) -> Option<Status>
 }
 
 /// Formats the first disks, in rising order. An answer says why the run can't begin.
-pub(crate) fn format_all<D: Disk>(disks: &mut [D], members: usize) -> Option<Status>
-    requires { members ≤ length disks.old }
-    ensures { IfFails D.fault_count members disks.old disks.new result }
+pub(crate) fn format_all<D: Disk>(disks: &mut [D], count: usize) -> Option<Status>
+    requires { count ≤ length disks.old }
+    ensures { IfFails D.fault_count count disks.old disks.new result }
 {
-    for member in 0..members {
+    for member in 0..count {
         match member_disk::format(&mut disks[member]) {
             Ok(()) => {}
             Err(MemberFault::NoMemory) => return Some(Status::NoMemory),

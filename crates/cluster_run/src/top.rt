@@ -1,15 +1,15 @@
 // The top calls.
-ghost use Rattle.std.specs.Prelude.{◌≡◌, ◌≤◌, ◌<◌, ◌++◌, ◌⊎◌, ℕ, IsTrue, true, IfOk, IfErr, IfSome, IsSome, None, Some, Ok, Option, List, map, string_bytes, length};
+ghost use Rattle.std.specs.Prelude.{◌≡◌, ◌≤◌, ◌<◌, ◌++◌, ◌⊎◌, ℕ, IsTrue, true, false, IfOk, IfErr, IfSome, IsSome, None, Some, Ok, Option, List, map, string_bytes, length};
 ghost use Rattle.cl_base.specs.Counts.{Rose};
 ghost use Rattle.plan.specs.Words.{plan_of};
 ghost use Rattle.run_report.specs.Written.{IsFront};
 ghost use Rattle.scenario.specs.Orders.{members_of as members_in, orders_of};
-ghost use Rattle.cluster_run.specs.Needed.{disks_of as disks_in};
+ghost use Rattle.cluster_run.specs.Needed.{disks_of as disks_in, has_backup as has_backup_in};
 ghost use Rattle.echo_run.specs.Form.{unbuilt};
 ghost use Rattle.echo_run.specs.Reported.{run_text};
 ghost use Rattle.scenario.specs.declared.fault.Cause.{Cause};
 ghost use Rattle.cluster_run.specs.Status.{status_text, IsRefusal, IsOrGivesUp};
-ghost use Rattle.cluster_run.specs.Begins.{CannotBegin, FormatFails, IsEnd, IsRun, Ends};
+ghost use Rattle.cluster_run.specs.Begins.{CannotBegin, FormatFails, AreFew, IsEnd, IsRun, Ends};
 ghost use Rattle.cluster_run.specs.Disks.{RoseAt, IsUsedAt};
 ghost use Rattle.cluster_run.specs.Reading.{IsFaulty, IsChecked, AreOrders};
 ghost use Rattle.scenario.specs.Printing.{printed};
@@ -175,15 +175,16 @@ fn run_task<R: Threads + Wait + Copy + Send + Sync + 'static, O: Sink, D: Disk +
     }
 }
 
-/// The orders of the generated scenario.
+/// The orders of the generated scenario, none of which is of a backup.
 fn made_orders(alloc: Global, messages: u64) -> Result<List<Order>, NoMemory>
     requires low { 1 ≤ messages }
     requires high { messages ≤ 20000 }
+    ensures { IfOk result (λ orders. has_backup_in orders ≡ false) }
 {
     let text = make(alloc, messages)?;
     match parse(alloc, text.as_slice()) {
-        Ok(orders) => Ok(orders),
-        Err(_) => Err(NoMemory),
+        Ok(orders) if !has_backup(orders.as_slice()) => Ok(orders),
+        _ => Err(NoMemory),
     }
 }
 
@@ -197,7 +198,7 @@ fn run_made<R: Threads + Wait + Copy + Send + Sync + 'static, O: Sink, D: Disk +
 ) -> Status
     requires low { 1 ≤ messages }
     requires high { messages ≤ 20000 }
-    ensures ends { (orders : List OneOrder) × Ends D.tells D.state D.fault_count orders disks.old.items disks.new.items result }
+    ensures ends { (orders : List OneOrder) × (has_backup_in orders ≡ false) × Ends D.tells D.state D.fault_count orders disks.old.items disks.new.items result }
     ensures write_fault { result ≡ Status.WriteFault → Rose (O.fault_count sink.old) (O.fault_count sink.new) }
     ensures refusal { IsTrue (O.tells sink.old) → IsRefusal result → O.held sink.new ≡ O.held sink.old ++ status_text result }
     ensures more { IsTrue (O.tells sink.old) → IsFront (O.held sink.old) (O.held sink.new) }
@@ -242,7 +243,7 @@ fn check_source<I: Source, O: Sink>(alloc: Global, source: &mut I, sink: &mut O)
 /// lines and the report, the summary, or the one line of a refusal. The answers stand in `Status`. `check` and every
 /// other list of words are answered as by `check_main`. A scenario with an order of the backup takes one disk more than
 /// its members: the one behind theirs, which is named by the number of members.
-#[tactic(auto, using(crate::proofs::Beginning::few_enough))]
+#[tactic(auto, using(crate::proofs::Beginning::few_given, crate::proofs::Beginning::few_alone))]
 pub fn cluster_main<
     R: Threads + Wait + Copy + Send + Sync + 'static,
     I: Source,
@@ -263,7 +264,7 @@ pub fn cluster_main<
     ensures write_fault { result ≡ Status.WriteFault → Rose (O.fault_count sink.old) (O.fault_count sink.new) }
     ensures too_long { IsTrue (I.tells source.old) → result ≡ Status.TooLong → 1048576 < length (I.left source.old) }
     ensures refused { (line : ℕ) → (cause : Cause) → result ≡ Status.Refused line cause → IsFaulty (I.tells source.old) (I.left source.old) line cause }
-    ensures few_disks { (members : ℕ) → (few : ℕ) → result ≡ Status.FewDisks members few → (few ≡ length disks.old.items) × (few ≤ members) }
+    ensures few_disks { (members : ℕ) → (few : ℕ) → result ≡ Status.FewDisks members few → (few ≡ length disks.old.items) × AreFew (I.tells source.old) (I.left source.old) members few }
     ensures used { (member : ℕ) → (file : ℕ) → result ≡ Status.Used member file → IsUsedAt D.tells D.state disks.old.items member file }
     ensures disk_fault { (member : ℕ) → result ≡ Status.DiskFault member → RoseAt D.fault_count disks.old.items disks.new.items member }
 
