@@ -3,6 +3,7 @@ use crate::clock::Clock;
 use cl_base::{Disk, List, NoMemory};
 use ingress::Outcome;
 use joined_clients::Joined;
+use run_backup::BackupNode;
 use run_outside::Outside;
 use run_report::Reply;
 use run_seats::{Seat, Site, Took};
@@ -18,6 +19,8 @@ pub(crate) enum Line {
     Order { line: u64, reply: Reply },
     /// A member was stopped: its disk failed, or holds bytes that are none of its own.
     Stopped { member: u8 },
+    /// The backup was stopped: its disk failed.
+    BackupStopped,
 }
 
 /// All members of a run, with what they share.
@@ -27,6 +30,8 @@ pub(crate) struct Cluster<D: Disk> {
     pub(crate) clock: Clock,
     pub(crate) seats: Vec<Seat<D>>,
     pub(crate) outside: Outside,
+    /// The backup, where the scenario has one.
+    pub(crate) backup: Option<BackupNode<D>>,
     /// How many connects each client has sent.
     pub(crate) connects: Vec<i64>,
     /// The clients that joined, by rising number.
@@ -48,8 +53,12 @@ fn grants(reply: Reply) -> bool {
 }
 
 impl<D: Disk + Drop> Cluster<D> {
-    /// Members that haven't started yet, on these disks.
-    pub(crate) fn new(site: Site, seats: Vec<Seat<D>>) -> Result<Cluster<D>, NoMemory> {
+    /// Members that haven't started yet, on these disks, and the backup, where there is one.
+    pub(crate) fn new(
+        site: Site,
+        seats: Vec<Seat<D>>,
+        backup: Option<BackupNode<D>>,
+    ) -> Result<Cluster<D>, NoMemory> {
         let alloc = site.alloc;
         let outside = Outside::new(alloc, site.members)?;
         let connects = vec![in alloc; 0i64; CLIENTS]?;
@@ -58,6 +67,7 @@ impl<D: Disk + Drop> Cluster<D> {
             clock: Clock::new(),
             seats,
             outside,
+            backup,
             connects,
             joined: Vec::new(alloc),
             free: false,

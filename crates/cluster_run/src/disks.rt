@@ -2,10 +2,11 @@
 ghost use Rattle.std.specs.Prelude.{◌≡◌, ◌≤◌, ℕ, length, IfOk, OnOk, IsTrue, None, slice_index_or};
 ghost use Rattle.cl_base.specs.Counts.{HasCause};
 ghost use Rattle.cluster_run.specs.Disks.{IsFirstUsed, IsLookedAt, AreUnused};
-ghost use Rattle.cluster_run.specs.Begins.{IfCannot, IfFails};
+ghost use Rattle.cluster_run.specs.Begins.{IfLookFails, IfFails};
 
 use crate::Status;
 use cl_base::{Disk, MemberFault, NoMemory, Trouble};
+use run_backup::BackupNode;
 use run_seats::{MemberId, Seat};
 use std::alloc::Global;
 use std::sync::Wait;
@@ -34,13 +35,13 @@ fn first_used<D: Disk>(disk: &mut D) -> Result<Option<u32>, Trouble>
 
 /// Why a run can't begin on the first of these disks, in rising order, where a file of one isn't empty or can't be
 /// looked at.
-pub(crate) fn used<D: Disk>(disks: &mut [D], members: usize) -> Option<Status>
-    requires { members ≤ length disks.old }
-    ensures why { IfCannot D.tells D.state D.fault_count members disks.old disks.new result }
+pub(crate) fn used<D: Disk>(disks: &mut [D], count: usize) -> Option<Status>
+    requires { count ≤ length disks.old }
+    ensures why { IfLookFails D.tells D.state D.fault_count count disks.old disks.new result }
     ensures looked { result ≡ None → (k : ℕ) → (d : D) → IsLookedAt D.tells D.is_honest D.state D.fault_count (slice_index_or disks.old k d) (slice_index_or disks.new k d) }
-    ensures unused { result ≡ None → AreUnused D.tells D.state disks.old members }
+    ensures unused { result ≡ None → AreUnused D.tells D.state disks.old count }
 {
-    for member in 0..members {
+    for member in 0..count {
         match first_used(&mut disks[member]) {
             Ok(None) => {}
             Ok(Some(file)) => {
@@ -61,11 +62,11 @@ pub(crate) fn used<D: Disk>(disks: &mut [D], members: usize) -> Option<Status>
 }
 
 /// Formats the first disks, in rising order. An answer says why the run can't begin.
-pub(crate) fn format_all<D: Disk>(disks: &mut [D], members: usize) -> Option<Status>
-    requires { members ≤ length disks.old }
-    ensures { IfFails D.fault_count members disks.old disks.new result }
+pub(crate) fn format_all<D: Disk>(disks: &mut [D], count: usize) -> Option<Status>
+    requires { count ≤ length disks.old }
+    ensures { IfFails D.fault_count count disks.old disks.new result }
 {
-    for member in 0..members {
+    for member in 0..count {
         match member_disk::format(&mut disks[member]) {
             Ok(()) => {}
             Err(MemberFault::NoMemory) => return Some(Status::NoMemory),
@@ -101,17 +102,43 @@ pub(crate) fn seated<D: Disk + Drop>(
     Ok(seats)
 }
 
-/// The disks come back to the front of the list, in order.
+/// The backup on the first of the disks that are left, where the run has one.
+pub(crate) fn backup_on<D: Disk + Drop>(
+    alloc: Global,
+    disks: &mut Vec<D>,
+    has_backup: bool,
+) -> Result<Option<BackupNode<D>>, NoMemory> {
+    if !has_backup {
+        return Ok(None);
+    }
+    if disks.is_empty() {
+        return Err(NoMemory);
+    }
+    Ok(Some(BackupNode::new(alloc, disks.remove(0))))
+}
+
+/// A disk comes back to its place in the list.
+fn put_back<D: Disk + Drop>(disks: &mut Vec<D>, index: usize, disk: D) -> Result<(), NoMemory> {
+    if index > disks.len() || disks.insert(index, disk).is_err() {
+        return Err(NoMemory);
+    }
+    Ok(())
+}
+
+/// The disks come back to the front of the list, in order: the members', and the backup's.
 pub(crate) fn give_back<R: Threads + Wait + Copy + Send + Sync + 'static, D: Disk + Drop>(
     rt: &R,
     seats: Vec<Seat<D>>,
+    backup: Option<BackupNode<D>>,
     disks: &mut Vec<D>,
 ) -> Result<(), NoMemory> {
+    let members = seats.len();
     for (index, seat) in seats.into_iter().enumerate() {
         let disk = seat.into_disk(rt)?;
-        if index > disks.len() || disks.insert(index, disk).is_err() {
-            return Err(NoMemory);
-        }
+        put_back(disks, index, disk)?;
     }
-    Ok(())
+    match backup {
+        Some(node) => put_back(disks, members, node.into_disk()?),
+        None => Ok(()),
+    }
 }

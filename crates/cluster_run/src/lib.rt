@@ -2,6 +2,7 @@
 //! services, and the run is written as it goes.
 #![tactic(auto)]
 
+mod backup;
 mod clients;
 mod clock;
 mod cluster;

@@ -73,8 +73,8 @@ impl<D: Disk + Drop> Cluster<D> {
             Order::Offer { line, client, text } => {
                 self.offer(rt, *line, *client, text.as_slice())
             }
-            Order::Backup { line, .. } | Order::BackupOff { line } | Order::BackupLose { line } =>
-                self.tell(*line, Reply::NotBuilt),
+            Order::Backup { .. } | Order::BackupOff { .. } | Order::BackupLose { .. } =>
+                self.backup_step(order),
         }
     }
 

@@ -6,6 +6,7 @@ use crate::cluster::Cluster;
 use cl_base::limits::LOG_LIMIT;
 use cl_base::{Disk, Entry, Sink, Trouble};
 use entry_log::end_after;
+use run_backup::report_backup;
 use run_listing::{inputs_of, report_members, report_services};
 use run_report::{Made, Page};
 
@@ -77,7 +78,33 @@ impl<D: Disk + Drop> Cluster<D> {
             sink,
             self.outside.printed.as_slice(),
         )?;
+        self.report_end(page, sink)
+    }
+
+    /// The report, from the backup on.
+    fn report_end<O: Sink>(&mut self, page: &mut Page, sink: &mut O) -> Result<(), Trouble>
+        ensures { Writes O.tells O.held O.fault_count sink.old sink.new result }
+    {
+        self.report_backup(page, sink)?;
         page.done(sink)
+    }
+
+    /// The backup's lines, where there is one.
+    fn report_backup<O: Sink>(&mut self, page: &mut Page, sink: &mut O) -> Result<(), Trouble>
+        ensures { Writes O.tells O.held O.fault_count sink.old sink.new result }
+    {
+        match &mut self.backup {
+            Some(node) => {
+                report_backup(
+                    node,
+                    &self.site,
+                    page,
+                    sink,
+                    self.outside.printed.as_slice(),
+                )
+            }
+            None => Ok(()),
+        }
     }
 
     /// What is written of a run that went to its end: its report, or its summary where it was generated with so many

@@ -18,9 +18,11 @@ impl<D: Disk + Drop> Cluster<D> {
             self.clock.tick();
             self.joined_round(rt)?;
             self.take_packets(rt)?;
+            self.take_backup_packets(rt)?;
             for member in 0..self.seats.len() {
                 self.ask(rt, member, Asking::Duty)?;
             }
+            self.send_query()?;
             if !quiet && !self.free {
                 for member in 0..self.seats.len() {
                     self.phase(rt, member)?;

@@ -21,15 +21,15 @@ pub enum Status {
     Refused { line: u64, cause: Cause },
     /// The source has more than 1,048,576 bytes.
     TooLong,
-    /// The scenario names more members than there are disks.
+    /// There are fewer disks than the run needs: one for each member, and one for the backup where an order is of it.
     FewDisks { members: u64, disks: u64 },
-    /// This file of this member's disk is the first that isn't empty.
+    /// This file of this member's disk is the first that isn't empty. The backup's disk has the number of members.
     Used { member: u64, file: u32 },
     /// The source failed.
     ReadFault,
     /// The sink failed, and holds a part of the text's front.
     WriteFault,
-    /// This member's disk failed before the run.
+    /// This member's disk failed before the run, or the backup's, which has the number of members.
     DiskFault { member: u64 },
     /// No memory was there. The sink holds a part of the text's front.
     NoMemory,

@@ -1,6 +1,7 @@
 // What is run: the orders of a source or of a generated scenario, and the members that they name.
-ghost use Rattle.std.specs.Prelude.{◌≡◌, ◌≤◌, IfOk, IfErr};
+ghost use Rattle.std.specs.Prelude.{◌≡◌, ◌≤◌, ◌<◌, IfOk, IfErr, MatchOption};
 ghost use Rattle.scenario.specs.Orders.{members_of, members_after};
+ghost use Rattle.cluster_run.specs.Needed.{is_of_backup, found_backup, has_backup, disks_of};
 ghost use Rattle.cluster_run.specs.Reading.{AreOrders, IsUnread};
 
 use crate::Status;
@@ -49,6 +50,50 @@ pub(crate) fn members_of(orders: &[Order]) -> u64
     orders
         .iter()
         .fold(5, |members, order| members_after(members, order))
+}
+
+/// Whether an order is of the backup.
+fn is_of_backup(order: &Order) -> bool
+    ensures { result ≡ is_of_backup order.now }
+{
+    match order {
+        Order::Backup { .. } | Order::BackupOff { .. } | Order::BackupLose { .. } => true,
+        _ => false,
+    }
+}
+
+/// Whether an order of the backup was found, or this is one.
+fn found_backup(found: bool, order: &Order) -> bool
+    ensures { result ≡ found_backup found order.now }
+{
+    found || is_of_backup(order)
+}
+
+/// Whether some order is of the backup.
+pub(crate) fn has_backup(orders: &[Order]) -> bool
+    ensures { result ≡ has_backup orders.now }
+{
+    orders
+        .iter()
+        .fold(false, |found, order| found_backup(found, order))
+}
+
+/// How many disks a run of these orders needs: one for each member, and one for the backup where some order is of it.
+/// None where these are more than there are.
+pub(crate) fn disks_of(orders: &[Order], there: u64) -> Option<u64>
+    ensures { MatchOption result (there < disks_of orders.now) (λ n. (n ≡ disks_of orders.now) × (n ≤ there)) }
+{
+    let members = members_of(orders);
+    if members > there {
+        return None;
+    }
+    if !has_backup(orders) {
+        return Some(members);
+    }
+    if members == there {
+        return None;
+    }
+    Some(members + 1)
 }
 
 /// The orders of a source, or why there are none.

@@ -3,7 +3,7 @@ ghost use Rattle.run_listing.specs.Sinks.{Writes};
 
 use crate::cluster::{Cluster, Line};
 use cl_base::{Disk, List, NoMemory, Sink, Trouble};
-use run_report::{put_order, put_stopped};
+use run_report::{put_backup_stopped, put_order, put_stopped};
 use scenario::Order;
 use std::alloc::Global;
 use std::mem;
@@ -17,6 +17,7 @@ fn put_line<O: Sink>(alloc: Global, sink: &mut O, line: &Line) -> Result<(), Tro
     match *line {
         Line::Order { line, reply } => put_order(alloc, sink, line, reply),
         Line::Stopped { member } => put_stopped(alloc, sink, member),
+        Line::BackupStopped => put_backup_stopped(sink),
     }
 }
 

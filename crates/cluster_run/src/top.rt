@@ -1,14 +1,15 @@
 // The top calls.
-ghost use Rattle.std.specs.Prelude.{◌≡◌, ◌≤◌, ◌<◌, ◌++◌, ◌⊎◌, ℕ, IsTrue, true, IfOk, IfErr, IfSome, IsSome, None, Some, Ok, Option, List, map, string_bytes, length};
+ghost use Rattle.std.specs.Prelude.{◌≡◌, ◌≤◌, ◌<◌, ◌++◌, ◌⊎◌, ℕ, IsTrue, true, false, IfOk, IfErr, IfSome, IsSome, None, Some, Ok, Option, List, map, string_bytes, length};
 ghost use Rattle.cl_base.specs.Counts.{Rose};
 ghost use Rattle.plan.specs.Words.{plan_of};
 ghost use Rattle.run_report.specs.Written.{IsFront};
 ghost use Rattle.scenario.specs.Orders.{members_of as members_in, orders_of};
+ghost use Rattle.cluster_run.specs.Needed.{disks_of as disks_in, has_backup as has_backup_in};
 ghost use Rattle.echo_run.specs.Form.{unbuilt};
 ghost use Rattle.echo_run.specs.Reported.{run_text};
 ghost use Rattle.scenario.specs.declared.fault.Cause.{Cause};
 ghost use Rattle.cluster_run.specs.Status.{status_text, IsRefusal, IsOrGivesUp};
-ghost use Rattle.cluster_run.specs.Begins.{CannotBegin, FormatFails, IsEnd, IsRun, Ends};
+ghost use Rattle.cluster_run.specs.Begins.{CannotBegin, FormatFails, AreFew, IsEnd, IsRun, Ends};
 ghost use Rattle.cluster_run.specs.Disks.{RoseAt, IsUsedAt};
 ghost use Rattle.cluster_run.specs.Reading.{IsFaulty, IsChecked, AreOrders};
 ghost use Rattle.scenario.specs.Printing.{printed};
@@ -17,8 +18,8 @@ ghost use Rattle.run_listing.specs.Sinks.{Writes};
 
 use crate::Status;
 use crate::cluster::Cluster;
-use crate::disks::{format_all, give_back, seated, used};
-use crate::task::{kinds_of, members_of, read_orders};
+use crate::disks::{backup_on, format_all, give_back, seated, used};
+use crate::task::{disks_of, has_backup, kinds_of, members_of, read_orders};
 use cl_base::{Bytes, Disk, List, NoMemory, Sink, Source, Trouble};
 use echo_run::echoed;
 use plan::{Plan, WordsFault, plan_words};
@@ -57,33 +58,33 @@ fn site_of(alloc: Global, members: u64, orders: &[Order]) -> Result<Site, Status
 fn formatted<D: Disk>(
     alloc: Global,
     disks: &mut [D],
-    members: u64,
+    needed: u64,
     orders: &[Order],
 ) -> Result<Site, Status>
-    requires { members ≤ length disks.old }
-    ensures { IfErr result (FormatFails D.fault_count members disks.old disks.new) }
+    requires { needed ≤ length disks.old }
+    ensures { IfErr result (FormatFails D.fault_count needed disks.old disks.new) }
 {
-    match format_all(disks, members as usize) {
+    match format_all(disks, needed as usize) {
         Some(status) => Err(status),
-        None => site_of(alloc, members, orders),
+        None => site_of(alloc, members_of(orders), orders),
     }
 }
 
 /// The members and services that orders name, once their disks are formatted, or why the run can't begin.
+#[tactic(auto, using(crate::proofs::Beginning::look_begins))]
 fn prepared<D: Disk>(alloc: Global, disks: &mut [D], orders: &[Order]) -> Result<Site, Status>
-    ensures { IfErr result (CannotBegin D.tells D.state D.fault_count (members_in orders.now) disks.old disks.new) }
+    ensures { IfErr result (CannotBegin D.tells D.state D.fault_count (members_in orders.now) (disks_in orders.now) disks.old disks.new) }
 {
-    let members = members_of(orders);
-    let few = disks.len() as u64;
-    if members > few {
+    let there = disks.len() as u64;
+    let Some(needed) = disks_of(orders, there) else {
         return Err(Status::FewDisks {
-            members,
-            disks: few,
+            members: members_of(orders),
+            disks: there,
         });
-    }
-    match used(disks, members as usize) {
+    };
+    match used(disks, needed as usize) {
         Some(status) => Err(status),
-        None => formatted(alloc, disks, members, orders),
+        None => formatted(alloc, disks, needed, orders),
     }
 }
 
@@ -116,16 +117,18 @@ fn run_on<R: Threads + Wait + Copy + Send + Sync + 'static, O: Sink, D: Disk + D
 {
     let alloc = site.alloc;
     let seats = seated(alloc, disks, site.members)?;
-    let mut cluster = Cluster::new(site, seats)?;
+    let backup = backup_on(alloc, disks, has_backup(task.orders.as_slice()))?;
+    let mut cluster = Cluster::new(site, seats, backup)?;
     let ran = run_members(rt, sink, &mut cluster, &task);
     let seats = mem::replace(&mut cluster.seats, Vec::new(alloc));
+    let backup = cluster.backup.take();
     match ran {
         Ok(()) => {
-            give_back(rt, seats, disks)?;
+            give_back(rt, seats, backup, disks)?;
             Ok(Status::Done)
         }
         Err(Trouble::Failed) => {
-            give_back(rt, seats, disks)?;
+            give_back(rt, seats, backup, disks)?;
             Ok(Status::WriteFault)
         }
         Err(Trouble::NoMemory) => Err(NoMemory),
@@ -151,7 +154,7 @@ fn run_task<R: Threads + Wait + Copy + Send + Sync + 'static, O: Sink, D: Disk +
     disks: &mut Vec<D>,
     task: Task,
 ) -> Status
-    ensures ends { Ends D.tells D.state D.fault_count (members_in task.orders) disks.old.items disks.new.items result }
+    ensures ends { Ends D.tells D.state D.fault_count task.orders disks.old.items disks.new.items result }
     ensures write_fault { result ≡ Status.WriteFault → Rose (O.fault_count sink.old) (O.fault_count sink.new) }
     ensures echoed { IsTrue (O.tells sink.old) → task.may_echo ≡ true → unbuilt task.orders ≡ None → result ≡ Status.Done → O.held sink.new ≡ O.held sink.old ++ run_text task.orders }
     ensures refusal { IsTrue (O.tells sink.old) → IsRefusal result → O.held sink.new ≡ O.held sink.old ++ status_text result }
@@ -172,15 +175,16 @@ fn run_task<R: Threads + Wait + Copy + Send + Sync + 'static, O: Sink, D: Disk +
     }
 }
 
-/// The orders of the generated scenario.
+/// The orders of the generated scenario, none of which is of a backup.
 fn made_orders(alloc: Global, messages: u64) -> Result<List<Order>, NoMemory>
     requires low { 1 ≤ messages }
     requires high { messages ≤ 20000 }
+    ensures { IfOk result (λ orders. has_backup_in orders ≡ false) }
 {
     let text = make(alloc, messages)?;
     match parse(alloc, text.as_slice()) {
-        Ok(orders) => Ok(orders),
-        Err(_) => Err(NoMemory),
+        Ok(orders) if !has_backup(orders.as_slice()) => Ok(orders),
+        _ => Err(NoMemory),
     }
 }
 
@@ -194,7 +198,7 @@ fn run_made<R: Threads + Wait + Copy + Send + Sync + 'static, O: Sink, D: Disk +
 ) -> Status
     requires low { 1 ≤ messages }
     requires high { messages ≤ 20000 }
-    ensures ends { (members : ℕ) × Ends D.tells D.state D.fault_count members disks.old.items disks.new.items result }
+    ensures ends { (orders : List OneOrder) × (has_backup_in orders ≡ false) × Ends D.tells D.state D.fault_count orders disks.old.items disks.new.items result }
     ensures write_fault { result ≡ Status.WriteFault → Rose (O.fault_count sink.old) (O.fault_count sink.new) }
     ensures refusal { IsTrue (O.tells sink.old) → IsRefusal result → O.held sink.new ≡ O.held sink.old ++ status_text result }
     ensures more { IsTrue (O.tells sink.old) → IsFront (O.held sink.old) (O.held sink.new) }
@@ -237,7 +241,9 @@ fn check_source<I: Source, O: Sink>(alloc: Global, source: &mut I, sink: &mut O)
 
 /// Runs the scenario that a source gives, or a generated one, on these disks, which are empty, and writes the order
 /// lines and the report, the summary, or the one line of a refusal. The answers stand in `Status`. `check` and every
-/// other list of words are answered as by `check_main`.
+/// other list of words are answered as by `check_main`. A scenario with an order of the backup takes one disk more than
+/// its members: the one behind theirs, which is named by the number of members.
+#[tactic(auto, using(crate::proofs::Beginning::few_given, crate::proofs::Beginning::few_alone))]
 pub fn cluster_main<
     R: Threads + Wait + Copy + Send + Sync + 'static,
     I: Source,
@@ -258,7 +264,7 @@ pub fn cluster_main<
     ensures write_fault { result ≡ Status.WriteFault → Rose (O.fault_count sink.old) (O.fault_count sink.new) }
     ensures too_long { IsTrue (I.tells source.old) → result ≡ Status.TooLong → 1048576 < length (I.left source.old) }
     ensures refused { (line : ℕ) → (cause : Cause) → result ≡ Status.Refused line cause → IsFaulty (I.tells source.old) (I.left source.old) line cause }
-    ensures few_disks { (members : ℕ) → (few : ℕ) → result ≡ Status.FewDisks members few → (few ≡ length disks.old.items) × (few < members) }
+    ensures few_disks { (members : ℕ) → (few : ℕ) → result ≡ Status.FewDisks members few → (few ≡ length disks.old.items) × AreFew (I.tells source.old) (I.left source.old) members few }
     ensures used { (member : ℕ) → (file : ℕ) → result ≡ Status.Used member file → IsUsedAt D.tells D.state disks.old.items member file }
     ensures disk_fault { (member : ℕ) → result ≡ Status.DiskFault member → RoseAt D.fault_count disks.old.items disks.new.items member }
 

@@ -6,8 +6,8 @@ use plan::{Plan, WordsFault, plan_words};
 use std::alloc::Global;
 use std::fs::Files;
 
-/// How many disks there are: the most members of a cluster.
-const DISKS: u64 = 5;
+/// How many disks there are: one for each of the most members of a cluster, and the backup's.
+const DISKS: u64 = 6;
 
 /// Why the disks of a folder can't be had.
 #[derive(Clone, Copy, Debug, PartialEq, Eq)]
@@ -42,7 +42,7 @@ pub fn memory_disks(alloc: Global) -> Option<Vec<MemDisk>> {
     Some(disks)
 }
 
-/// The disks in a folder: that of member M in its folder `mM`.
+/// The disks in a folder: that of member M in its folder `mM`, and the backup's, where it is the next one, likewise.
 pub fn folder_disks<R: Files + Copy + Clone + Drop>(
     rt: &R,
     alloc: Global,

@@ -49,7 +49,6 @@ reply_text reply.Running = codes "running"
 reply_text (reply.Damaged file place) = count (codes "damaged ") file ++ count (codes " ") place
 reply_text reply.NoSnapshot = codes "no snapshot"
 reply_text reply.NotOpen = codes "not open"
-reply_text reply.NotBuilt = codes "not built"
 
 -- what became of the order in a line
 abbrev pub order_line : ℕ → Reply → List ℕ
@@ -57,3 +56,6 @@ order_line line r = count (codes "order ") line ++ codes " " ++ reply_text r ++ 
 
 abbrev pub stopped_line : ℕ → List ℕ
 stopped_line member = codes "stopped " ++ decimal member ++ newline
+
+abbrev pub backup_stopped_line : List ℕ
+backup_stopped_line = codes "stopped backup" ++ newline

@@ -14,6 +14,7 @@ use Rattle.run_report.specs.declared.line.EntryKind.{EntryKind}
 use Rattle.run_report.specs.declared.line.EntryKind.TheVariants as kinds
 use Rattle.run_report.specs.declared.line.RunAt.{RunAt}
 use Rattle.run_report.specs.declared.line.MemberAt.{MemberAt}
+use Rattle.run_report.specs.declared.line.BackupAt.{BackupAt}
 use Rattle.run_report.specs.declared.line.Made.{Made}
 use Rattle.run_report.specs.declared.line.Line.{Line}
 use Rattle.run_report.specs.declared.line.Line.TheVariants as line
@@ -128,6 +129,16 @@ unread_line member = count (codes "member ") member ++ codes " down unread" ++ n
 abbrev pub damaged_line : ℕ → ℕ → ℕ → List ℕ
 damaged_line member file place = count (codes "member ") member ++ count (codes " down damaged ") file ++ count (codes " ") place ++ newline
 
+-- the backup, and how many valid snapshot sets it has
+abbrev pub backup_line : BackupAt → ℕ → List ℕ
+backup_line b sets = count (codes "backup entries ") b.entries ++ count (codes " same ") b.same ++ count (codes " snapshots ") sets ++ newline
+
+abbrev pub backup_unread_line : List ℕ
+backup_unread_line = codes "backup unread" ++ newline
+
+abbrev pub backup_damaged_line : ℕ → ℕ → List ℕ
+backup_damaged_line file place = count (codes "backup damaged ") file ++ count (codes " ") place ++ newline
+
 unfoldable pub set_line : SnapshotAt → List ℕ
 set_line s = codes "snapshot " ++ decimal s.position ++ codes " " ++ signed_decimal s.term ++ newline
 
@@ -148,6 +159,9 @@ line_text (line.Got g) = got_line g.now
 line_text (line.Member m sets) = member_line m sets
 line_text (line.Unread member) = unread_line member
 line_text (line.Damaged member file place) = damaged_line member file place
+line_text (line.Backup b sets) = backup_line b sets
+line_text line.BackupUnread = backup_unread_line
+line_text (line.BackupDamaged file place) = backup_damaged_line file place
 line_text (line.Set s) = set_line s.now
 line_text (line.Made m) = made_front m ++ made_back m
 line_text line.Done = codes "done" ++ newline
@@ -183,3 +197,7 @@ client_text client got = line_text (line.Client client (length got)) ++ got_line
 -- a member, its own entries from where its log leaves the printed one, and its valid snapshot sets
 abbrev pub member_text : MemberAt → List Entry → List SnapshotAt → List ℕ
 member_text m own sets = line_text (line.Member m (length sets)) ++ entry_lines kinds.Own m.same own ++ set_lines sets
+
+-- the backup, and its valid snapshot sets
+abbrev pub backup_text : BackupAt → List SnapshotAt → List ℕ
+backup_text b sets = line_text (line.Backup b (length sets)) ++ set_lines sets

@@ -9,8 +9,8 @@ mod page;
 mod pieces;
 mod stream;
 
-pub use line::{EntryKind, Line, Made, MemberAt, RunAt};
-pub use orders::{Reply, put_order, put_stopped};
+pub use line::{BackupAt, EntryKind, Line, Made, MemberAt, RunAt};
+pub use orders::{Reply, put_backup_stopped, put_order, put_stopped};
 pub use page::Page;
 pub use stream::give;
 

@@ -40,6 +40,15 @@ pub struct MemberAt {
     pub same: u64,
 }
 
+/// What a backup is at the end.
+#[derive(Clone, Copy, Debug, PartialEq, Eq)]
+pub struct BackupAt {
+    /// How many entries its log has.
+    pub entries: u64,
+    /// How many of them, from the front, are those of the printed log.
+    pub same: u64,
+}
+
 /// What is told of a generated scenario in place of a report.
 #[derive(Clone, Copy, Debug, PartialEq, Eq)]
 pub struct Made {
@@ -103,6 +112,18 @@ pub enum Line<'a> {
     /// A stopped member whose file is first wrong at this place (bytes).
     Damaged {
         member: u8,
+        file: u32,
+        place: u64,
+    },
+    /// The backup with so many valid snapshot sets.
+    Backup {
+        end: BackupAt,
+        sets: usize,
+    },
+    /// A stopped backup whose disk failed as it was read.
+    BackupUnread,
+    /// A stopped backup whose file is first wrong at this place (bytes).
+    BackupDamaged {
         file: u32,
         place: u64,
     },

@@ -1,9 +1,9 @@
 // The text of a report's lines.
 ghost use Rattle.std.specs.Prelude.{◌≡◌, ◌++◌, OnOk, string_bytes};
-ghost use Rattle.run_report.specs.Text.{word_of, entry_line, run_line, origin_text, record_line, client_line, got_line, member_front, commit_text, member_back, member_line, unread_line, damaged_line, set_line, made_front, made_back, line_text};
+ghost use Rattle.run_report.specs.Text.{word_of, entry_line, run_line, origin_text, record_line, client_line, got_line, member_front, commit_text, member_back, member_line, unread_line, damaged_line, backup_line, backup_unread_line, backup_damaged_line, set_line, made_front, made_back, line_text};
 
 use crate::events::put_bytes;
-use crate::line::{EntryKind, Line, Made, MemberAt, RunAt};
+use crate::line::{BackupAt, EntryKind, Line, Made, MemberAt, RunAt};
 use crate::pieces::{put, put_count, put_hex};
 use cl_base::{Entry, NoMemory};
 use cluster_client::Got;
@@ -129,6 +129,29 @@ fn put_damaged(page: &mut String, member: u8, file: u32, place: u64) -> Result<(
     put(page, "\n")
 }
 
+fn put_backup(page: &mut String, end: BackupAt, sets: usize) -> Result<(), NoMemory>
+    ensures { OnOk result (string_bytes page.new ≡ string_bytes page.old ++ backup_line end sets) }
+{
+    put_count(page, "backup entries ", end.entries)?;
+    put_count(page, " same ", end.same)?;
+    put_count(page, " snapshots ", sets as u64)?;
+    put(page, "\n")
+}
+
+fn put_backup_unread(page: &mut String) -> Result<(), NoMemory>
+    ensures { OnOk result (string_bytes page.new ≡ string_bytes page.old ++ backup_unread_line) }
+{
+    put(page, "backup unread\n")
+}
+
+fn put_backup_damaged(page: &mut String, file: u32, place: u64) -> Result<(), NoMemory>
+    ensures { OnOk result (string_bytes page.new ≡ string_bytes page.old ++ backup_damaged_line file place) }
+{
+    put_count(page, "backup damaged ", file as u64)?;
+    put_count(page, " ", place)?;
+    put(page, "\n")
+}
+
 #[tactic(auto, unfolding(crate::specs::Text::set_line))]
 fn put_set(page: &mut String, set: &SnapshotAt) -> Result<(), NoMemory>
     ensures { OnOk result (string_bytes page.new ≡ string_bytes page.old ++ set_line set.now) }
@@ -183,6 +206,9 @@ pub fn put_line(page: &mut String, line: &Line) -> Result<(), NoMemory>
             file,
             place,
         } => put_damaged(page, *member, *file, *place)?,
+        Line::Backup { end, sets } => put_backup(page, *end, *sets)?,
+        Line::BackupUnread => put_backup_unread(page)?,
+        Line::BackupDamaged { file, place } => put_backup_damaged(page, *file, *place)?,
         Line::Set(set) => put_set(page, set)?,
         Line::Made(made) => put_made(page, *made)?,
         Line::Done => put(page, "done\n")?,

@@ -2,7 +2,7 @@
 ghost use Rattle.std.specs.Prelude.{◌≡◌, ◌++◌, IsTrue, OnOk, OnErr, string_bytes};
 ghost use Rattle.cl_base.specs.Counts.{HasCause};
 ghost use Rattle.run_report.specs.Written.{IsPart};
-ghost use Rattle.run_report.specs.Orders.{leader_text, cause_text, bad_text, outcome_text, reply_text, order_line, stopped_line};
+ghost use Rattle.run_report.specs.Orders.{leader_text, cause_text, bad_text, outcome_text, reply_text, order_line, stopped_line, backup_stopped_line};
 
 use crate::pieces::{put, put_count, put_number, put_value, put_value32};
 use crate::stream::give;
@@ -26,8 +26,6 @@ pub enum Reply {
     NoSnapshot,
     /// A joined client that is to offer has no session.
     NotOpen,
-    /// What it asks for isn't built: nothing was done.
-    NotBuilt,
 }
 
 fn put_leader(page: &mut String, leader: i32) -> Result<(), NoMemory>
@@ -93,7 +91,6 @@ fn put_reply(page: &mut String, reply: Reply) -> Result<(), NoMemory>
         }
         Reply::NoSnapshot => put(page, "no snapshot"),
         Reply::NotOpen => put(page, "not open"),
-        Reply::NotBuilt => put(page, "not built"),
     }
 }
 
@@ -144,4 +141,14 @@ pub fn put_stopped<O: Sink>(alloc: Global, sink: &mut O, member: u8) -> Result<(
         Ok(()) => give(sink, page.as_bytes()),
         Err(NoMemory) => Err(Trouble::NoMemory),
     }
+}
+
+/// Writes that the backup was stopped by its disk.
+pub fn put_backup_stopped<O: Sink>(sink: &mut O) -> Result<(), Trouble>
+    ensures cause { HasCause (O.fault_count sink.old) (O.fault_count sink.new) result }
+    ensures tells { O.tells sink.new ≡ O.tells sink.old }
+    ensures whole { IsTrue (O.tells sink.old) → OnOk result (O.held sink.new ≡ O.held sink.old ++ backup_stopped_line) }
+    ensures part { IsTrue (O.tells sink.old) → OnErr result (IsPart (O.held sink.old) backup_stopped_line (O.held sink.new)) }
+{
+    give(sink, b"stopped backup\n")
 }

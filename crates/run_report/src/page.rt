@@ -1,9 +1,9 @@
 // The report, written in blocks.
 ghost use Rattle.std.specs.Prelude.{◌≡◌, ◌++◌, ◌+◌, ◌<◌, ◌^◌, [], IsTrue, OnOk, OnErr, IfErr, IsErrOf, length, string_bytes};
 ghost use Rattle.run_report.specs.Written.{Adds};
-ghost use Rattle.run_report.specs.Text.{line_text, entry_lines, record_lines, got_lines, set_lines, log_text, run_text, stream_text, client_text, member_text};
+ghost use Rattle.run_report.specs.Text.{line_text, entry_lines, record_lines, got_lines, set_lines, log_text, run_text, stream_text, client_text, member_text, backup_text};
 
-use crate::line::{EntryKind, Line, Made, MemberAt, RunAt};
+use crate::line::{BackupAt, EntryKind, Line, Made, MemberAt, RunAt};
 use crate::lines::put_line;
 use crate::stream::{BLOCK, give};
 use cl_base::{Entry, NoMemory, Sink, Trouble};
@@ -219,6 +219,39 @@ impl Page {
                 place,
             },
         )
+    }
+
+    /// The backup, and its valid snapshot sets.
+    pub fn backup<O: Sink>(
+        &mut self,
+        sink: &mut O,
+        end: BackupAt,
+        sets: &[SnapshotAt],
+    ) -> Result<(), Trouble>
+        ensures { Adds O.tells O.held O.fault_count sink.old sink.new self.old self.new (backup_text end sets.now) result }
+    {
+        let count = sets.len();
+        self.line(sink, &Line::Backup { end, sets: count })?;
+        self.sets(sink, sets)
+    }
+
+    /// A stopped backup whose disk failed as it was read.
+    pub fn backup_unread<O: Sink>(&mut self, sink: &mut O) -> Result<(), Trouble>
+        ensures { Adds O.tells O.held O.fault_count sink.old sink.new self.old self.new (line_text Line.BackupUnread) result }
+    {
+        self.line(sink, &Line::BackupUnread)
+    }
+
+    /// A stopped backup whose file of this number is first wrong at this place (bytes).
+    pub fn backup_damaged<O: Sink>(
+        &mut self,
+        sink: &mut O,
+        file: u32,
+        place: u64,
+    ) -> Result<(), Trouble>
+        ensures { Adds O.tells O.held O.fault_count sink.old sink.new self.old self.new (line_text (Line.BackupDamaged file place)) result }
+    {
+        self.line(sink, &Line::BackupDamaged { file, place })
     }
 
     /// The end: all of the page is written out.

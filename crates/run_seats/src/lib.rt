@@ -2,13 +2,17 @@
 //! is stopped keeps its disk.
 #![tactic(auto)]
 
+mod answer;
 mod calls;
+mod going;
+mod idle;
 mod member;
 mod mounted;
 mod phases;
 mod running;
 mod seat;
 mod site;
+mod stopped;
 
 pub use calls::Asking;
 pub use member::Shown;

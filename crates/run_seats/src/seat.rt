@@ -3,9 +3,11 @@ ghost use Rattle.std.specs.Prelude.{◌≡◌, ◌+◌, ◌≤◌, ◌<◌, ◌^
 
 use crate::calls::{Asking, Call};
 use crate::mounted::Mounted;
-use crate::running::{Failed, Running, Stopped, start};
+use crate::running::{Running, start};
 use crate::site::{MemberId, Site};
-use cl_base::{Choice, Disk, Entry, List, MemberFault, NoMemory};
+use crate::stopped::{Failed, Stopped};
+use cl_base::{Bytes, Choice, Disk, Entry, List, MemberFault, NoMemory};
+use cluster_backup::decode_backup;
 use ingress::Outcome;
 use run_outside::Outside;
 use run_report::Reply;
@@ -14,6 +16,7 @@ use std::marker::Model;
 use std::mem;
 use std::sync::Wait;
 use std::thread::Threads;
+use wire_prims::DecodeFault;
 
 /// What one run of a service consumed.
 #[derive(Drop)]
@@ -256,6 +259,30 @@ impl<D: Disk + Drop> Seat<D> {
                 Ok(Took::Taken(outcome))
             }
             Err(failed) => self.fail(outside.alloc, failed),
+        }
+    }
+
+    /// A backup's packet reaches the member. One that is stopped drops it.
+    pub fn answer<R: Threads + Wait + Copy + Send + Sync + 'static>(
+        &mut self,
+        rt: &R,
+        alloc: Global,
+        bytes: &[u8],
+    ) -> Result<(Took, List<Bytes>), NoMemory> {
+        let query = match decode_backup(alloc, bytes) {
+            Ok(query) => query,
+            Err(DecodeFault::Bad(_)) => return Ok((Took::Taken(None), List::new(alloc))),
+            Err(DecodeFault::NoMemory) => return Err(NoMemory),
+        };
+        let Some(running) = self.take_running() else {
+            return Ok((Took::Down, List::new(alloc)));
+        };
+        match running.answer(rt, alloc, &query) {
+            Ok((running, packets)) => {
+                self.home = Home::Up(running);
+                Ok((Took::Taken(None), packets))
+            }
+            Err(failed) => Ok((self.fail(alloc, failed)?, List::new(alloc))),
         }
     }
 

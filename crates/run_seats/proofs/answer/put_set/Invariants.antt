@@ -1,0 +1,11 @@
+use Rattle.std.proofs.Common.{◌≡◌}
+use Rattle.run_seats.proofs.answer.put_set.Given as goal
+
+abbrev pub invariant-loop-service : goal.invariant-loop-service
+invariant-loop-service g l = record {
+  kept : l.agent.disk.kept ≡ l.initial.agent.disk.kept;
+  core : l.agent.core ≡ l.initial.agent.core;
+  own : l.agent.module ≡ l.initial.agent.module;
+  services : l.agent.services ≡ l.initial.agent.services;
+  over : l.agent.over ≡ l.initial.agent.over;
+}
