@@ -1,12 +1,12 @@
 -- Why a run can't begin.
-use Rattle.std.proofs.Common.{◌≡◌, ℕ, ◌+◌, ◌<◌, ◌≤◌, Bool, true, false, List, length, arith, refl, sym, subst, ◌⊎◌, inl, inr}
+use Rattle.std.proofs.Common.{◌≡◌, ℕ, ◌+◌, ◌<◌, Bool, true, false, List, arith, refl, sym, subst, ◌⊎◌, inl, inr}
 use Rattle.std.proofs.lemmas.Bool.{cases_lt}
 use Rattle.std.specs.Prelude.{if◌then◌else◌}
 use Rattle.cl_base.specs.Disk.{DiskState}
 use Rattle.scenario.specs.Orders.{members_of}
 use Rattle.scenario.specs.declared.order.Order.{Order}
 use Rattle.cluster_run.specs.Reading.{AreOrders}
-use Rattle.cluster_run.specs.Begins.{CannotBegin, LookFails, AreFew, Ends}
+use Rattle.cluster_run.specs.Begins.{CannotBegin, LookFails, AreFew}
 use Rattle.cluster_run.specs.Needed.{has_backup, disks_of}
 use Rattle.cluster_run.specs.declared.status.Status.{Status}
 use Rattle.cluster_run.specs.declared.status.Status.TheVariants as status
@@ -47,20 +47,3 @@ fewer true few members none h = absurd cc
 -- a run without a backup lacks disks
 pub few_alone : (orders : List Order) (few members : ℕ) → has_backup orders ≡ false → members ≡ members_of orders → few < disks_of orders → few < members
 few_alone orders few members none e h = fewer (has_backup orders) few members none (subst (λ m. few < m + (if has_backup orders then 1 else 0)) (sym e) h)
-
-module _ {D : Type 0} (tells : D → Bool) (state : D → DiskState) (faults : D → ℕ) (orders : List Order) (old new : List D) (told : Bool) (had : List ℕ) (members few : ℕ) where
-  -- a run of orders that a source gave ends for want of disks
-  pub few_read : (s : Status) → Ends tells state faults orders old new s → AreOrders told had orders → s ≡ status.FewDisks members few → (few ≡ length old) × AreFew told had members few
-  few_read (status.FewDisks m n) h are e =
-      let one : m ≡ members = cc in
-      let two : n ≡ few = cc in
-      (cc (h.1, two), few_given told had orders few members are (cc (h.0, one)) (subst (λ k. k < disks_of orders) two h.2))
-  few_read s h are e = absurd cc
-
-  -- a generated run ends for want of disks
-  pub few_made : (s : Status) → has_backup orders ≡ false → Ends tells state faults orders old new s → s ≡ status.FewDisks members few → (few ≡ length old) × AreFew told had members few
-  few_made (status.FewDisks m n) none h e =
-      let one : m ≡ members = cc in
-      let two : n ≡ few = cc in
-      (cc (h.1, two), inl (few_alone orders few members none (cc (h.0, one)) (subst (λ k. k < disks_of orders) two h.2)))
-  few_made s none h e = absurd cc
