@@ -4,5 +4,3 @@ pub mod Phases
 pub mod Begins
 pub mod Stages
 pub mod Inside
-pub mod Hands
-pub mod Threads
