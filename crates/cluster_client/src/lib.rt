@@ -14,6 +14,3 @@ pub use client::Client;
 pub use laws::{a_session_is_opened_by_its_ok, a_session_is_opened_once};
 pub use runs::{Call, Got, run_calls};
 pub use state::State;
-
-#[cfg(test)]
-mod tests;

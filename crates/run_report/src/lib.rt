@@ -13,6 +13,3 @@ pub use line::{BackupAt, EntryKind, Line, Made, MemberAt, RunAt};
 pub use orders::{Reply, put_backup_stopped, put_order, put_stopped};
 pub use page::Page;
 pub use stream::give;
-
-#[cfg(test)]
-mod tests;

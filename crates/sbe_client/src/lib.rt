@@ -10,6 +10,3 @@ mod laws;
 pub use egress::{Egress, decode_egress, encode_egress};
 pub use ingress::{Ingress, decode_ingress, encode_ingress};
 pub use laws::{egress_is_read_again, ingress_is_read_again};
-
-#[cfg(test)]
-mod tests;

@@ -10,6 +10,3 @@ mod template;
 pub use decode::decode_packet;
 pub use encode::encode_packet;
 pub use packet::{Outgoing, Packet};
-
-#[cfg(test)]
-mod tests;

@@ -9,6 +9,3 @@ mod template;
 pub use decode::{decode_event, event_fault, term_of};
 pub use encode::encode_event;
 pub use event::Event;
-
-#[cfg(test)]
-mod tests;

@@ -7,6 +7,3 @@ mod strict;
 
 pub use command::{Command, decode_command, encode_command};
 pub use piece::{Mark, Piece, decode_piece, encode_piece};
-
-#[cfg(test)]
-mod tests;

@@ -22,6 +22,3 @@ pub use making::make;
 pub use order::{Named, Order};
 pub use printing::print;
 pub use reader::{parse, read};
-
-#[cfg(test)]
-mod tests;

@@ -8,8 +8,6 @@ mod number;
 mod output;
 mod service;
 mod shipped;
-#[cfg(test)]
-mod tests;
 mod ticker;
 
 pub use echo::Echo;

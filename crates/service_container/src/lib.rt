@@ -5,8 +5,6 @@
 mod container;
 mod gate;
 mod outbox;
-#[cfg(test)]
-mod tests;
 mod works;
 
 pub use container::{Container, ServeEnd, Served};

@@ -1,10 +1,10 @@
 ghost use Rattle.std.specs.Prelude.{◌≤◌, length, IfOk};
 ghost use Rattle.sbe_events.specs.Spelling.{HasSpelling, IsClient};
 
-use crate::{Kind, Output, Outputs, Shipped};
 use cl_base::{Bytes, NoMemory};
 use sbe_events::Event;
 use sbe_local::Command;
+use service_api::{Kind, Output, Outputs, Shipped};
 use std::alloc::Global;
 use std::test::Fail;
 use wire_prims::{Bad, BadCause, DecodeFault};

@@ -1,5 +1,5 @@
-use super::*;
 use cl_base::Bytes;
+use cluster_client::*;
 use std::alloc::{AllocError, Global};
 use std::test::*;
 use wire_prims::{Bad, DecodeFault};

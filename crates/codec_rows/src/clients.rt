@@ -1,8 +1,8 @@
 ghost use Rattle.std.specs.Prelude.{◌≤◌};
 ghost use Rattle.sbe_client.specs.Spelling.{HasEgressSpelling};
 
-use super::*;
 use cl_base::Bytes;
+use sbe_client::*;
 use std::alloc::{AllocError, Global};
 use std::test::*;
 use wire_prims::{Bad, BadCause, DecodeFault};

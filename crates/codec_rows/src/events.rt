@@ -1,5 +1,5 @@
-use super::*;
 use cl_base::{Bytes, NoMemory};
+use sbe_events::*;
 use std::test::*;
 use wire_prims::{Bad, BadCause, DecodeFault};
 

@@ -1,11 +1,11 @@
 ghost use Rattle.std.specs.Prelude.{◌≡◌, ◌+◌, ◌<◌, ◌^◌, false, true, [], IfOk};
 ghost use Rattle.commit_counter.specs.Ends.{fed_to};
 
-use crate::{Container, NoGate, ServeEnd};
 use cl_base::{Bytes, Entry, NoMemory};
 use commit_counter::{Feed, Poller, Role, close, image};
 use sbe_events::{Event, encode_event};
 use service_api::{Kind, Output};
+use service_container::{Container, NoGate, ServeEnd};
 use std::alloc::Global;
 use std::sync::Wait;
 use std::test::Fail;

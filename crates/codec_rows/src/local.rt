@@ -1,4 +1,4 @@
-use super::*;
+use sbe_local::*;
 use std::alloc::{AllocError, Global};
 use std::test::*;
 use wire_prims::{Bad, BadCause, DecodeFault};

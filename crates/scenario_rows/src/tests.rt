@@ -1,6 +1,6 @@
 // Scenarios, and texts that aren't: what the language's rules say of each.
-use crate::*;
 use cl_base::NoMemory;
+use scenario::*;
 use std::alloc::Global;
 use std::test::*;
 

@@ -1,12 +1,12 @@
 // The text of each kind of line and of entry, and of what an order is answered.
 ghost use Rattle.sbe_events.specs.Spelling.{HasSpelling};
 
-use crate::{Made, MemberAt, Page, Reply, RunAt, put_order, put_stopped};
 use cl_base::{Bytes, Entry, MemSink, Trouble};
 use cluster_client::Got;
 use egress::Sent;
 use ingress::Outcome;
 use recording_log::SnapshotAt;
+use run_report::{Made, MemberAt, Page, Reply, RunAt, put_order, put_stopped};
 use sbe_events::{Event, encode_event};
 use std::alloc::Global;
 use std::test::Fail;
