@@ -1,12 +1,12 @@
 // How a call of the program ends.
 ghost use Rattle.std.specs.Prelude.{◌≡◌, ◌≤◌, ◌++◌, ◌⊎◌, OnOk, IsTrue, codes, string_bytes};
 ghost use Rattle.cluster_run.specs.Status.{exit_code, count, status_text, ended, IsOrGivesUp};
-ghost use Rattle.run_report.specs.Written.{IsFront};
+ghost use Rattle.line_text.specs.Written.{IsFront};
 ghost use Rattle.cl_base.specs.Counts.{Rose};
 ghost use Rattle.scenario.specs.Causes.{cause_text};
 
 use cl_base::{NoMemory, Sink, Trouble};
-use run_report::give;
+use line_text::give;
 use scenario::Cause;
 use std::alloc::Global;
 

@@ -2,7 +2,7 @@
 ghost use Rattle.std.specs.Prelude.{◌≡◌, ◌≤◌, ◌<◌, ◌++◌, ◌⊎◌, ℕ, IsTrue, true, false, IfOk, IfErr, IfSome, IsSome, None, Some, Ok, Option, List, map, string_bytes, length};
 ghost use Rattle.cl_base.specs.Counts.{Rose};
 ghost use Rattle.plan.specs.Words.{plan_of};
-ghost use Rattle.run_report.specs.Written.{IsFront};
+ghost use Rattle.line_text.specs.Written.{IsFront};
 ghost use Rattle.scenario.specs.Orders.{members_of as members_in, orders_of};
 ghost use Rattle.cluster_run.specs.Needed.{disks_of as disks_in, has_backup as has_backup_in};
 ghost use Rattle.echo_run.specs.Form.{unbuilt};
@@ -22,8 +22,8 @@ use crate::disks::{backup_on, format_all, give_back, seated, used};
 use crate::task::{disks_of, has_backup, kinds_of, members_of, read_orders};
 use cl_base::{Bytes, Disk, List, NoMemory, Sink, Source, Trouble};
 use echo_run::echoed;
+use line_text::give;
 use plan::{Plan, WordsFault, plan_words};
-use run_report::give;
 use run_seats::Site;
 use scenario::{Order, make, parse, print};
 use std::alloc::Global;

@@ -5,7 +5,7 @@ use Rattle.std.specs.Prelude.{OnOk, OnErr}
 use Rattle.cl_base.specs.Counts.{HasCause}
 use Rattle.cl_base.specs.declared.fault.Trouble.{Trouble}
 use Rattle.cl_base.specs.declared.fault.Trouble.TheVariants as troubles
-use Rattle.run_report.specs.Written.{IsPart, IsFront, IsTold, IsCutShort, Tells, Adds}
+use Rattle.line_text.specs.Written.{IsPart, IsFront, IsTold, IsCutShort, Tells, Adds}
 use Rattle.cluster_tool.specs.declared.status.ToolStatus.{ToolStatus}
 use Rattle.cluster_tool.specs.declared.status.ToolStatus.TheVariants as status
 use Rattle.cluster_tool.specs.Status.{status_text, ended, IsOrGivesUp, IsRefusal}

@@ -8,7 +8,7 @@ use Rattle.recording_log.specs.Entries.{Holds}
 use Rattle.recording_log.specs.Listed.{AreSets}
 use Rattle.log_segment.specs.Held.{IsHeld}
 use Rattle.member_disk.specs.Kept.{Kept, Held, ReadsLike}
-use Rattle.run_report.specs.Written.{IsFront}
+use Rattle.line_text.specs.Written.{IsFront}
 use Rattle.cluster_tool.specs.declared.status.ToolStatus.{ToolStatus}
 use Rattle.cluster_tool.specs.declared.status.ToolStatus.TheVariants as status
 use Rattle.cluster_tool.specs.Status.{status_text, IsRefusal}

@@ -5,7 +5,7 @@ use Rattle.cl_base.specs.declared.fault.Trouble.{Trouble}
 use Rattle.cl_base.specs.declared.fault.Trouble.TheVariants as trouble
 use Rattle.cl_base.specs.declared.fault.MemberFault.{MemberFault}
 use Rattle.cl_base.specs.declared.fault.MemberFault.TheVariants as fault
-use Rattle.run_report.specs.Pieces.{count}
+use Rattle.line_text.specs.Pieces.{count}
 use Rattle.cluster_tool.specs.declared.status.ToolStatus.{ToolStatus}
 use Rattle.cluster_tool.specs.declared.status.ToolStatus.TheVariants as status
 

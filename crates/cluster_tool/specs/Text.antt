@@ -8,7 +8,7 @@ use Rattle.recording_log.specs.Valid.{is_valid}
 use Rattle.entry_log.specs.Log.{Log, place}
 use Rattle.log_segment.specs.Held.{new_term_of, new_terms}
 use Rattle.member_disk.specs.Kept.{Kept}
-use Rattle.run_report.specs.Pieces.{newline}
+use Rattle.line_text.specs.Pieces.{newline}
 use Rattle.run_report.specs.Text.{set_line, set_lines}
 use Rattle.cluster_tool.specs.Compared.{compared}
 use Rattle.cluster_tool.specs.declared.compare.Outcome.{Outcome}

@@ -1,7 +1,7 @@
 -- What an answer leaves of a sink.
 use Rattle.std.specs.Prelude.{◌≡◌, ℕ, ◌≤◌, Bool, IsTrue, List, ◌++◌}
 use Rattle.cl_base.specs.Counts.{Rose}
-use Rattle.run_report.specs.Written.{IsFront}
+use Rattle.line_text.specs.Written.{IsFront}
 use Rattle.cluster_tool.specs.declared.status.ToolStatus.{ToolStatus}
 use Rattle.cluster_tool.specs.declared.status.ToolStatus.TheVariants as status
 use Rattle.cluster_tool.specs.Status.{IsOrGivesUp}

@@ -5,7 +5,7 @@ ghost use Rattle.entry_log.specs.Log.{place};
 ghost use Rattle.log_segment.specs.Held.{new_terms};
 ghost use Rattle.recording_log.specs.declared.entry.SnapshotAt.{SnapshotAt as OneSet};
 ghost use Rattle.recording_log.specs.Listed.{AreSets};
-ghost use Rattle.run_report.specs.Written.{Adds};
+ghost use Rattle.line_text.specs.Written.{Adds};
 ghost use Rattle.run_report.specs.Text.{set_lines};
 ghost use Rattle.cluster_tool.specs.Words.{describe};
 ghost use Rattle.cluster_tool.specs.Text.{line_text, begun, summary_with, describe_with};

@@ -1,19 +1,16 @@
 // A listing, written in blocks.
 ghost use Rattle.std.specs.Prelude.{◌≡◌, ◌++◌, ◌<◌, [], IsTrue, OnOk, OnErr, IfErr, length, string_bytes};
-ghost use Rattle.run_report.specs.Written.{Adds};
+ghost use Rattle.line_text.specs.Written.{Adds};
 ghost use Rattle.run_report.specs.Text.{set_lines};
 ghost use Rattle.cluster_tool.specs.Text.{line_text, recorded_lines};
 
 use crate::line::Line;
 use crate::lines::put_line;
 use cl_base::{NoMemory, Sink, Trouble};
+use line_text::{BLOCK, give};
 use recording_log::{RecEntry, SnapshotAt};
-use run_report::give;
 use std::alloc::Global;
 use std::marker::Model;
-
-/// How long what isn't written yet may become, in bytes, before it is written.
-const BLOCK: usize = 4096;
 
 /// What was told and isn't written yet. Each call puts lines behind it, and writes it out where it is as long as a
 /// block. Contracts see its bytes.

@@ -1,6 +1,6 @@
 // The entries of a recording log.
 ghost use Rattle.std.specs.Prelude.{◌≡◌, ◌∷◌, [], List, IsTrue};
-ghost use Rattle.run_report.specs.Written.{Adds};
+ghost use Rattle.line_text.specs.Written.{Adds};
 ghost use Rattle.cluster_tool.specs.Words.{recording};
 ghost use Rattle.cluster_tool.specs.Text.{recording_text};
 ghost use Rattle.cluster_tool.specs.Disks.{IsSeen, EndsFor};

@@ -1,11 +1,11 @@
 // How a call of the tool ends.
 ghost use Rattle.std.specs.Prelude.{◌≡◌, ◌++◌, OnOk, codes, string_bytes};
 ghost use Rattle.cluster_tool.specs.Status.{exit_code, status_text, ended, status_of};
-ghost use Rattle.run_report.specs.Pieces.{count};
+ghost use Rattle.line_text.specs.Pieces.{count};
 ghost use Rattle.cluster_tool.specs.Told.{Told, NoWriteFault};
 
 use cl_base::{MemberFault, NoMemory, Sink, Trouble};
-use run_report::give;
+use line_text::give;
 use std::alloc::Global;
 
 /// How a call of the tool ends. Disks are counted from 0, in the order of the folders among the words.

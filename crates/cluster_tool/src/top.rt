@@ -1,7 +1,7 @@
 // The top call.
 ghost use Rattle.std.specs.Prelude.{◌≡◌, ◌≤◌, ◌<◌, ◌+◌, ◌∷◌, ◌++◌, [], ℕ, IsTrue, IsSome, Some, None, List, map, length, string_bytes, vec_len, vec_capacity};
 ghost use Rattle.cl_base.specs.Counts.{Rose};
-ghost use Rattle.run_report.specs.Written.{IsFront};
+ghost use Rattle.line_text.specs.Written.{IsFront};
 ghost use Rattle.cluster_tool.specs.Words.{Tool, Listing, describe, recording, verify, tool_of, TakesDisks};
 ghost use Rattle.cluster_tool.specs.Status.{status_text, IsRefusal, IsOrGivesUp};
 ghost use Rattle.cluster_tool.specs.Disks.{AllTell, AreSeen, AreRead, RoseAt, NoneOld, IsOldAt, NamesOld};

@@ -1,6 +1,6 @@
 // How far the logs of two members' disks are the same.
 ghost use Rattle.std.specs.Prelude.{◌≡◌, ◌∷◌, ◌++◌, [], IsTrue};
-ghost use Rattle.run_report.specs.Written.{Adds};
+ghost use Rattle.line_text.specs.Written.{Adds};
 ghost use Rattle.cluster_tool.specs.Words.{verify};
 ghost use Rattle.cluster_tool.specs.Text.{line_text, verify_text};
 ghost use Rattle.cluster_tool.specs.Disks.{IsStill, EndsBoth};

@@ -4,7 +4,7 @@ use Rattle.std.specs.Prelude.{IsErr, IsErrAnd, OnOk, OnErr}
 use Rattle.cl_base.specs.Counts.{HasCause}
 use Rattle.cl_base.specs.declared.fault.Trouble.{Trouble}
 use Rattle.cl_base.specs.declared.fault.Trouble.TheVariants as troubles
-use Rattle.run_report.specs.Written.{IsPart, IsFront, Tells, Adds}
+use Rattle.line_text.specs.Written.{IsPart, IsFront, Tells, Adds}
 use Rattle.run_listing.specs.Sinks.{Writes}
 
 pub front_same : (a : List ℕ) → IsFront a a

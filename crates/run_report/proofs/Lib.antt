@@ -1,4 +1,1 @@
-pub mod Parts
-pub mod Chains
-pub mod Telling
 pub mod Listed

@@ -1,4 +1,2 @@
-pub mod Pieces
 pub mod Text
 pub mod Orders
-pub mod Written

@@ -6,7 +6,7 @@ use Rattle.wire_prims.specs.declared.fault.BadCause.{BadCause}
 use Rattle.wire_prims.specs.declared.fault.BadCause.TheVariants as causes
 use Rattle.ingress.specs.declared.outcome.Outcome.{Outcome}
 use Rattle.ingress.specs.declared.outcome.Outcome.TheVariants as outcome
-use Rattle.run_report.specs.Pieces.{newline, count, value}
+use Rattle.line_text.specs.Pieces.{newline, count, value}
 use Rattle.run_report.specs.declared.orders.Reply.{Reply}
 use Rattle.run_report.specs.declared.orders.Reply.TheVariants as reply
 

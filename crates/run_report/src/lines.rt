@@ -2,12 +2,11 @@
 ghost use Rattle.std.specs.Prelude.{◌≡◌, ◌++◌, OnOk, string_bytes};
 ghost use Rattle.run_report.specs.Text.{word_of, entry_line, run_line, origin_text, record_line, client_line, got_line, member_front, commit_text, member_back, member_line, unread_line, damaged_line, backup_line, backup_unread_line, backup_damaged_line, set_line, made_front, made_back, line_text};
 
-use crate::events::put_bytes;
 use crate::line::{BackupAt, EntryKind, Line, Made, MemberAt, RunAt};
-use crate::pieces::{put, put_count, put_hex};
 use cl_base::{Entry, NoMemory};
 use cluster_client::Got;
 use egress::Sent;
+use line_text::{put, put_bytes, put_count, put_hex};
 use recording_log::SnapshotAt;
 
 /// The word that begins an entry's line.

@@ -1,13 +1,12 @@
 // The lines that are written while a run goes on.
 ghost use Rattle.std.specs.Prelude.{◌≡◌, ◌++◌, IsTrue, OnOk, OnErr, string_bytes};
 ghost use Rattle.cl_base.specs.Counts.{HasCause};
-ghost use Rattle.run_report.specs.Written.{IsPart};
+ghost use Rattle.line_text.specs.Written.{IsPart};
 ghost use Rattle.run_report.specs.Orders.{leader_text, cause_text, bad_text, outcome_text, reply_text, order_line, stopped_line, backup_stopped_line};
 
-use crate::pieces::{put, put_count, put_number, put_value, put_value32};
-use crate::stream::give;
 use cl_base::{NoMemory, Sink, Trouble};
 use ingress::Outcome;
+use line_text::{give, put, put_count, put_number, put_value, put_value32};
 use std::alloc::Global;
 use wire_prims::{Bad, BadCause};
 

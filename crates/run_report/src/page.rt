@@ -1,14 +1,14 @@
 // The report, written in blocks.
 ghost use Rattle.std.specs.Prelude.{◌≡◌, ◌++◌, ◌+◌, ◌<◌, ◌^◌, [], IsTrue, OnOk, OnErr, IfErr, IsErrOf, length, string_bytes};
-ghost use Rattle.run_report.specs.Written.{Adds};
+ghost use Rattle.line_text.specs.Written.{Adds};
 ghost use Rattle.run_report.specs.Text.{line_text, entry_lines, record_lines, got_lines, set_lines, log_text, run_text, stream_text, client_text, member_text, backup_text};
 
 use crate::line::{BackupAt, EntryKind, Line, Made, MemberAt, RunAt};
 use crate::lines::put_line;
-use crate::stream::{BLOCK, give};
 use cl_base::{Entry, NoMemory, Sink, Trouble};
 use cluster_client::Got;
 use egress::Sent;
+use line_text::{BLOCK, give};
 use recording_log::SnapshotAt;
 use std::alloc::Global;
 use std::marker::Model;

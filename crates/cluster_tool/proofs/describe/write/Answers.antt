@@ -1,7 +1,7 @@
 use Rattle.std.proofs.Common.{ℕ, List, [], ◌++◌, sym, subst, append_assoc}
-use Rattle.run_report.specs.Written.{Adds}
+use Rattle.line_text.specs.Written.{Adds}
 use Rattle.run_report.specs.Text.{set_lines}
-use Rattle.run_report.proofs.Telling.{adds_then, adds_stops, adds_as}
+use Rattle.line_text.proofs.Telling.{adds_then, adds_stops, adds_as}
 use Rattle.cluster_tool.specs.declared.line.Line.TheVariants as line
 use Rattle.cluster_tool.specs.Text.{line_text}
 use Rattle.cluster_tool.proofs.describe.write.Goals as goal

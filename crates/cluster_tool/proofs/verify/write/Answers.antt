@@ -1,6 +1,6 @@
 use Rattle.std.proofs.Common.{ℕ, List, [], ◌++◌, subst}
-use Rattle.run_report.specs.Written.{Adds}
-use Rattle.run_report.proofs.Telling.{adds_stops}
+use Rattle.line_text.specs.Written.{Adds}
+use Rattle.line_text.proofs.Telling.{adds_stops}
 use Rattle.cluster_tool.specs.declared.line.Line.TheVariants as line
 use Rattle.cluster_tool.specs.Text.{line_text}
 use Rattle.cluster_tool.proofs.verify.write.Goals as goal

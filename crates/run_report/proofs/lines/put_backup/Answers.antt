@@ -1,7 +1,7 @@
 use Rattle.std.proofs.Common.{◌++◌, codes, string_bytes}
 use Rattle.std.proofs.lemmas.Result.{on_ok_weaker}
-use Rattle.run_report.specs.Pieces.{newline, count}
-use Rattle.run_report.proofs.Chains.{joined}
+use Rattle.line_text.specs.Pieces.{newline, count}
+use Rattle.line_text.proofs.Chains.{joined}
 use Rattle.run_report.proofs.lines.put_backup.Goals as goal
 
 pub returns : goal.returns

@@ -1,8 +1,8 @@
 use Rattle.std.proofs.Common.{◌++◌, codes, string_bytes}
 use Rattle.std.proofs.lemmas.Result.{on_ok_weaker}
-use Rattle.run_report.specs.Pieces.{newline, count}
+use Rattle.line_text.specs.Pieces.{newline, count}
 use Rattle.run_report.specs.Text.{commit_text}
-use Rattle.run_report.proofs.Chains.{joined}
+use Rattle.line_text.proofs.Chains.{joined}
 use Rattle.run_report.proofs.lines.put_member_back.Goals as goal
 
 pub returns : goal.returns

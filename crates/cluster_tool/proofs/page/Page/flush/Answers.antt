@@ -1,6 +1,6 @@
 use Rattle.std.proofs.Common.{ℕ, List, [], Err, refl, ◌∙◌, subst}
-use Rattle.run_report.specs.Written.{IsPart}
-use Rattle.run_report.proofs.Telling.{adds_part, adds_ends}
+use Rattle.line_text.specs.Written.{IsPart}
+use Rattle.line_text.proofs.Telling.{adds_part, adds_ends}
 use Rattle.cluster_tool.proofs.page.Page.flush.Goals as goal
 
 pub returns-in_err-give-clause-told : goal.returns-in_err-give-clause-told

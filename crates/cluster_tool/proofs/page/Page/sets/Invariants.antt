@@ -1,6 +1,6 @@
 -- What was told so far.
 use Rattle.std.proofs.Common.{take, Ok}
-use Rattle.run_report.specs.Written.{Adds}
+use Rattle.line_text.specs.Written.{Adds}
 use Rattle.run_report.specs.Text.{set_lines}
 use Rattle.cluster_tool.proofs.page.Page.sets.Given as goal
 

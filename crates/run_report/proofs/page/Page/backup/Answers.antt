@@ -1,5 +1,5 @@
 use Rattle.run_report.specs.Text.{set_lines}
-use Rattle.run_report.proofs.Telling.{adds_then, adds_stops}
+use Rattle.line_text.proofs.Telling.{adds_then, adds_stops}
 use Rattle.run_report.proofs.page.Page.backup.Goals as goal
 
 pub returns-in_err-line : goal.returns-in_err-line

@@ -1,7 +1,7 @@
 use Rattle.std.proofs.Common.{◌+◌, ◌<◌, ◌++◌, length, take, drop, sym, ap, ◌∙◌, arith}
 use Rattle.run_report.specs.Text.{got_line, got_lines}
 use Rattle.run_report.proofs.Listed.{lines_more, lines_cut, got_is}
-use Rattle.run_report.proofs.Telling.{adds_then, adds_stops, adds_as}
+use Rattle.line_text.proofs.Telling.{adds_then, adds_stops, adds_as}
 use Rattle.run_report.proofs.page.Page.handed.Goals as goal
 
 pub returns-in_err-line : goal.returns-in_err-line

@@ -1,6 +1,6 @@
 use Rattle.run_report.specs.declared.line.EntryKind.TheVariants as kinds
 use Rattle.run_report.specs.Text.{entry_lines}
-use Rattle.run_report.proofs.Telling.{adds_then, adds_stops}
+use Rattle.line_text.proofs.Telling.{adds_then, adds_stops}
 use Rattle.run_report.proofs.page.Page.log.Goals as goal
 
 pub returns-in_err-line : goal.returns-in_err-line

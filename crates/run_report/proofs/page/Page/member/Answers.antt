@@ -2,7 +2,7 @@ use Rattle.std.proofs.Common.{◌++◌, sym, append_assoc, length}
 use Rattle.run_report.specs.declared.line.EntryKind.TheVariants as kinds
 use Rattle.run_report.specs.declared.line.Line.TheVariants as line
 use Rattle.run_report.specs.Text.{line_text, entry_lines, set_lines}
-use Rattle.run_report.proofs.Telling.{adds_then, adds_stops, adds_as}
+use Rattle.line_text.proofs.Telling.{adds_then, adds_stops, adds_as}
 use Rattle.run_report.proofs.page.Page.member.Goals as goal
 
 pub returns-in_err-line : goal.returns-in_err-line

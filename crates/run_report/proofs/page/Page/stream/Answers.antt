@@ -2,7 +2,7 @@ use Rattle.std.proofs.Common.{sym}
 use Rattle.std.proofs.lemmas.Int.{to_z-of_z}
 use Rattle.run_report.specs.Text.{record_lines}
 use Rattle.run_report.proofs.Listed.{stream_none, stream_some}
-use Rattle.run_report.proofs.Telling.{adds_start, adds_then, adds_stops, adds_as}
+use Rattle.line_text.proofs.Telling.{adds_start, adds_then, adds_stops, adds_as}
 use Rattle.run_report.proofs.page.Page.stream.Goals as goal
 
 pub returns-then-count-eq0 : goal.returns-then-count-eq0

@@ -1,6 +1,6 @@
 use Rattle.run_report.specs.declared.line.Line.TheVariants as line
 use Rattle.run_report.specs.Text.{line_text}
-use Rattle.run_report.proofs.Telling.{adds_then, adds_stops}
+use Rattle.line_text.proofs.Telling.{adds_then, adds_stops}
 use Rattle.run_report.proofs.page.Page.summary.Goals as goal
 
 pub returns-in_err-line-clause-told : goal.returns-in_err-line-clause-told

@@ -3,8 +3,8 @@ use Rattle.wire_prims.specs.declared.fault.Bad.{Bad}
 use Rattle.sbe_events.specs.Spelling.{first_fault, event_of, event_from}
 use Rattle.sbe_events.specs.Templates.{template_of}
 use Rattle.wire_prims.specs.Fields.{u16_at}
-use Rattle.run_report.specs.Text.{bytes_text, found_text}
-use Rattle.run_report.proofs.events.put_bytes.Goals as goal
+use Rattle.line_text.specs.Events.{bytes_text, found_text}
+use Rattle.line_text.proofs.events.put_bytes.Goals as goal
 
 no_text : (bytes : List ℕ) (b : Bad) → first_fault bytes ≡ Some b → bytes_text bytes ≡ []
 unfolding event_of

@@ -1,6 +1,6 @@
 use Rattle.std.proofs.Common.{arith, ◌∙◌}
-use Rattle.run_report.proofs.Parts.{front_more}
-use Rattle.run_report.proofs.stream.give.Goals as goal
+use Rattle.line_text.proofs.Parts.{front_more}
+use Rattle.line_text.proofs.stream.give.Goals as goal
 
 pub loop-at-preserved : goal.loop-at-preserved
 loop-at-preserved g c =

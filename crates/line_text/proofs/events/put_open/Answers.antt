@@ -1,9 +1,9 @@
 use Rattle.std.proofs.Common.{◌++◌, codes, string_bytes, to_z-of_z}
 use Rattle.std.proofs.lemmas.Result.{on_ok_weaker}
-use Rattle.run_report.specs.Pieces.{hex_text, value}
-use Rattle.run_report.specs.Text.{open_front}
-use Rattle.run_report.proofs.Chains.{joined}
-use Rattle.run_report.proofs.events.put_open.Goals as goal
+use Rattle.line_text.specs.Pieces.{hex_text, value}
+use Rattle.line_text.specs.Events.{open_front}
+use Rattle.line_text.proofs.Chains.{joined}
+use Rattle.line_text.proofs.events.put_open.Goals as goal
 
 pub returns : goal.returns
 returns c =

@@ -1,6 +1,6 @@
 // The text of an entry's event.
 ghost use Rattle.std.specs.Prelude.{◌≡◌, ◌++◌, OnOk, string_bytes};
-ghost use Rattle.run_report.specs.Text.{term_text, open_front, open_text, message_text, service_text, timer_text, close_text, snapshot_text, event_text, bytes_text};
+ghost use Rattle.line_text.specs.Events.{term_text, open_front, open_text, message_text, service_text, timer_text, close_text, snapshot_text, event_text, bytes_text};
 
 use crate::pieces::{put, put_hex, put_value, put_value32};
 use cl_base::NoMemory;
@@ -80,7 +80,8 @@ fn put_snapshot_event(page: &mut String, stamp: i64) -> Result<(), NoMemory>
     Ok(())
 }
 
-fn put_event(page: &mut String, event: &Event) -> Result<(), NoMemory>
+/// An event, without its term.
+pub fn put_event(page: &mut String, event: &Event) -> Result<(), NoMemory>
     ensures { OnOk result (string_bytes page.new ≡ string_bytes page.old ++ event_text event.now) }
 {
     match event {

@@ -1,8 +1,8 @@
 use Rattle.std.proofs.Common.{◌++◌, codes, string_bytes, to_z-of_z}
 use Rattle.std.proofs.lemmas.Result.{on_ok_weaker}
-use Rattle.run_report.specs.Pieces.{value}
-use Rattle.run_report.proofs.Chains.{joined}
-use Rattle.run_report.proofs.events.put_open_front.Goals as goal
+use Rattle.line_text.specs.Pieces.{value}
+use Rattle.line_text.proofs.Chains.{joined}
+use Rattle.line_text.proofs.events.put_open_front.Goals as goal
 
 pub returns : goal.returns
 returns c =

@@ -1,11 +1,12 @@
-// The pieces of which a text is made. Each is written behind what is there.
+// The pieces of which a text is made. Each is written behind what stands on the page; after NoMemory some of it may stand there.
 ghost use Rattle.std.specs.Prelude.{◌≡◌, ◌++◌, OnOk, string_bytes};
 ghost use Rattle.std.specs.Fmt.{decimal, signed_decimal};
 ghost use Rattle.hex.specs.Hex.{encode_lower};
-ghost use Rattle.run_report.specs.Pieces.{hex_text, count, value};
+ghost use Rattle.line_text.specs.Pieces.{hex_text, count, value};
 
 use cl_base::NoMemory;
 
+/// Words.
 pub fn put(page: &mut String, words: &str) -> Result<(), NoMemory>
     ensures { OnOk result (string_bytes page.new ≡ string_bytes page.old ++ words.now) }
 {
@@ -13,6 +14,7 @@ pub fn put(page: &mut String, words: &str) -> Result<(), NoMemory>
     Ok(())
 }
 
+/// A number in decimal digits.
 pub fn put_number(page: &mut String, n: u64) -> Result<(), NoMemory>
     ensures { OnOk result (string_bytes page.new ≡ string_bytes page.old ++ decimal n) }
 {
@@ -20,6 +22,7 @@ pub fn put_number(page: &mut String, n: u64) -> Result<(), NoMemory>
     Ok(())
 }
 
+/// A signed number in decimal digits, a minus before it where it is below 0.
 pub fn put_signed(page: &mut String, n: i64) -> Result<(), NoMemory>
     ensures { OnOk result (string_bytes page.new ≡ string_bytes page.old ++ signed_decimal n) }
 {
@@ -27,6 +30,7 @@ pub fn put_signed(page: &mut String, n: i64) -> Result<(), NoMemory>
     Ok(())
 }
 
+/// Bytes as pairs of lower case digits, or a dash where there are none.
 pub fn put_hex(page: &mut String, bytes: &[u8]) -> Result<(), NoMemory>
     ensures { OnOk result (string_bytes page.new ≡ string_bytes page.old ++ hex_text bytes.now) }
 {

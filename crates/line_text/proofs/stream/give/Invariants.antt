@@ -1,5 +1,5 @@
 use Rattle.std.proofs.Common.{length, ◌-◌, ◌≡◌, ◌≤◌, ◌++◌, ℕ, IsTrue, take, List, Bool}
-use Rattle.run_report.proofs.stream.give.Given as goal
+use Rattle.line_text.proofs.stream.give.Given as goal
 
 -- the front of the text up to here is written
 pub record Written {O : Type 0} (tells : O → Bool) (held : O → List ℕ) (faults : O → ℕ) (old new : O) (text : List ℕ) (at : ℕ) : Type 0 where

@@ -1,7 +1,7 @@
 // A text is written in blocks.
 ghost use Rattle.std.specs.Prelude.{◌≡◌, ◌++◌, IsTrue, OnOk, OnErr};
 ghost use Rattle.cl_base.specs.Counts.{HasCause};
-ghost use Rattle.run_report.specs.Written.{IsPart};
+ghost use Rattle.line_text.specs.Written.{IsPart};
 
 use cl_base::{Sink, Trouble};
 
