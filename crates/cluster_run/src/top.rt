@@ -1,31 +1,32 @@
-// The top calls.
+// The top call.
 ghost use Rattle.std.specs.Prelude.{◌≡◌, ◌≤◌, ◌<◌, ◌++◌, ◌⊎◌, ℕ, IsTrue, true, false, IfOk, IfErr, IfSome, IsSome, None, Some, Ok, Option, List, map, string_bytes, length};
 ghost use Rattle.cl_base.specs.Counts.{Rose};
 ghost use Rattle.plan.specs.Words.{plan_of};
 ghost use Rattle.line_text.specs.Written.{IsFront};
 ghost use Rattle.scenario.specs.Orders.{members_of as members_in, orders_of};
-ghost use Rattle.cluster_run.specs.Needed.{disks_of as disks_in, has_backup as has_backup_in};
 ghost use Rattle.echo_run.specs.Form.{unbuilt};
 ghost use Rattle.echo_run.specs.Reported.{run_text};
 ghost use Rattle.scenario.specs.declared.fault.Cause.{Cause};
-ghost use Rattle.cluster_run.specs.Status.{status_text, IsRefusal, IsOrGivesUp};
-ghost use Rattle.cluster_run.specs.Begins.{CannotBegin, FormatFails, AreFew, IsEnd, IsRun, Ends};
-ghost use Rattle.cluster_run.specs.Disks.{RoseAt, IsUsedAt};
-ghost use Rattle.cluster_run.specs.Reading.{IsFaulty, IsChecked, AreOrders};
-ghost use Rattle.scenario.specs.Printing.{printed};
 ghost use Rattle.scenario.specs.declared.order.Order.{Order as OneOrder};
+ghost use Rattle.run_start.specs.Status.{status_text, IsRefusal, IsOrGivesUp};
+ghost use Rattle.run_start.specs.Begins.{CannotBegin, AreFew};
+ghost use Rattle.run_start.specs.Disks.{RoseAt, IsUsedAt};
+ghost use Rattle.run_start.specs.Needed.{disks_of as disks_in, has_backup as has_backup_in};
+ghost use Rattle.run_start.specs.Reading.{IsFaulty};
 ghost use Rattle.run_listing.specs.Sinks.{Writes};
+ghost use Rattle.cluster_run.specs.Ends.{IsEnd, IsRun, Ends};
 
-use crate::Status;
 use crate::cluster::Cluster;
-use crate::disks::{backup_on, format_all, give_back, seated, used};
-use crate::task::{disks_of, has_backup, kinds_of, members_of, read_orders};
+use crate::disks::{backup_on, give_back, seated};
 use cl_base::{Bytes, Disk, List, NoMemory, Sink, Source, Trouble};
 use echo_run::echoed;
 use line_text::give;
 use plan::{Plan, WordsFault, plan_words};
 use run_seats::Site;
-use scenario::{Order, make, parse, print};
+use run_start::{
+    Status, check_source, has_backup, kinds_of, made_orders, members_of, prepare, read_orders,
+};
+use scenario::Order;
 use std::alloc::Global;
 use std::mem;
 use std::sync::Wait;
@@ -54,37 +55,13 @@ fn site_of(alloc: Global, members: u64, orders: &[Order]) -> Result<Site, Status
     }
 }
 
-/// The members and services that orders name, once their disks, which are empty, are formatted.
-fn formatted<D: Disk>(
-    alloc: Global,
-    disks: &mut [D],
-    needed: u64,
-    orders: &[Order],
-) -> Result<Site, Status>
-    requires { needed ≤ length disks.old }
-    ensures { IfErr result (FormatFails D.fault_count needed disks.old disks.new) }
-{
-    match format_all(disks, needed as usize) {
-        Some(status) => Err(status),
-        None => site_of(alloc, members_of(orders), orders),
-    }
-}
-
 /// The members and services that orders name, once their disks are formatted, or why the run can't begin.
-#[tactic(auto, using(crate::proofs::Beginning::look_begins))]
 fn prepared<D: Disk>(alloc: Global, disks: &mut [D], orders: &[Order]) -> Result<Site, Status>
     ensures { IfErr result (CannotBegin D.tells D.state D.fault_count (members_in orders.now) (disks_in orders.now) disks.old disks.new) }
 {
-    let there = disks.len() as u64;
-    let Some(needed) = disks_of(orders, there) else {
-        return Err(Status::FewDisks {
-            members: members_of(orders),
-            disks: there,
-        });
-    };
-    match used(disks, needed as usize) {
-        Some(status) => Err(status),
-        None => formatted(alloc, disks, needed, orders),
+    match prepare(disks, orders) {
+        Ok(()) => site_of(alloc, members_of(orders), orders),
+        Err(status) => Err(status),
     }
 }
 
@@ -175,19 +152,6 @@ fn run_task<R: Threads + Wait + Copy + Send + Sync + 'static, O: Sink, D: Disk +
     }
 }
 
-/// The orders of the generated scenario, none of which is of a backup.
-fn made_orders(alloc: Global, messages: u64) -> Result<List<Order>, NoMemory>
-    requires low { 1 ≤ messages }
-    requires high { messages ≤ 20000 }
-    ensures { IfOk result (λ orders. has_backup_in orders ≡ false) }
-{
-    let text = make(alloc, messages)?;
-    match parse(alloc, text.as_slice()) {
-        Ok(orders) if !has_backup(orders.as_slice()) => Ok(orders),
-        _ => Err(NoMemory),
-    }
-}
-
 /// The run of a generated scenario.
 fn run_made<R: Threads + Wait + Copy + Send + Sync + 'static, O: Sink, D: Disk + Drop>(
     rt: &R,
@@ -218,32 +182,11 @@ fn run_made<R: Threads + Wait + Copy + Send + Sync + 'static, O: Sink, D: Disk +
     }
 }
 
-/// The orders of a source are written.
-fn check_source<I: Source, O: Sink>(alloc: Global, source: &mut I, sink: &mut O) -> Status
-    ensures ends { IsChecked (I.tells source.old) (I.left source.old) (I.fault_count source.old) (I.fault_count source.new) result }
-    ensures write_fault { result ≡ Status.WriteFault → Rose (O.fault_count sink.old) (O.fault_count sink.new) }
-    ensures refusal { IsTrue (O.tells sink.old) → IsRefusal result → O.held sink.new ≡ O.held sink.old ++ status_text result }
-    ensures checked { IsTrue (O.tells sink.old) → result ≡ Status.Done → (orders : List OneOrder) × AreOrders (I.tells source.old) (I.left source.old) orders × (O.held sink.new ≡ O.held sink.old ++ printed orders) }
-    ensures more { IsTrue (O.tells sink.old) → IsFront (O.held sink.old) (O.held sink.new) }
-    ensures source_later { I.fault_count source.old ≤ I.fault_count source.new }
-    ensures sink_later { O.fault_count sink.old ≤ O.fault_count sink.new }
-    ensures source_tells { I.tells source.new ≡ I.tells source.old }
-    ensures sink_tells { O.tells sink.new ≡ O.tells sink.old }
-{
-    match read_orders(alloc, source) {
-        Ok(orders) => match print(alloc, orders.as_slice()) {
-            Ok(text) => Status::Done.after(give(sink, text.as_slice())),
-            Err(NoMemory) => Status::NoMemory,
-        },
-        Err(status) => status.written(alloc, sink),
-    }
-}
-
 /// Runs the scenario that a source gives, or a generated one, on these disks, which are empty, and writes the order
 /// lines and the report, the summary, or the one line of a refusal. The answers stand in `Status`. `check` and every
-/// other list of words are answered as by `check_main`. A scenario with an order of the backup takes one disk more than
+/// other list of words are answered as by `run_start::check_main`. A scenario with an order of the backup takes one disk more than
 /// its members: the one behind theirs, which is named by the number of members.
-#[tactic(auto, using(crate::proofs::Beginning::few_given, crate::proofs::Beginning::few_alone))]
+#[tactic(auto, using(run_start::proofs::Beginning::few_given, run_start::proofs::Beginning::few_alone))]
 pub fn cluster_main<
     R: Threads + Wait + Copy + Send + Sync + 'static,
     I: Source,
@@ -295,36 +238,6 @@ pub fn cluster_main<
         Ok(Plan::Make { n, dir: _ }) => run_made(rt, alloc, n, sink, disks),
         Ok(Plan::Check) => check_source(alloc, source, sink),
         Err(WordsFault::Usage) => Status::Usage.written(alloc, sink),
-        Err(WordsFault::NoMemory) => Status::NoMemory,
-    }
-}
-
-/// Reads the scenario that a source gives, and writes its orders, one a line. Every other list of words than `check` is
-/// no command's.
-pub fn check_main<I: Source, O: Sink>(
-    alloc: Global,
-    words: &[String],
-    source: &mut I,
-    sink: &mut O,
-) -> Status
-    ensures usage { result ≡ Status.Usage → plan_of (map string_bytes words.now) ≡ Some Plan.Check → ⊥ }
-    ensures usage_exactly { (plan_of (map string_bytes words.now) ≡ Some Plan.Check → ⊥) → IsOrGivesUp result Status.Usage }
-    ensures ends { plan_of (map string_bytes words.now) ≡ Some Plan.Check → IsChecked (I.tells source.old) (I.left source.old) (I.fault_count source.old) (I.fault_count source.new) result }
-    ensures write_fault { result ≡ Status.WriteFault → Rose (O.fault_count sink.old) (O.fault_count sink.new) }
-    ensures checked { IsTrue (O.tells sink.old) → result ≡ Status.Done → (orders : List OneOrder) × AreOrders (I.tells source.old) (I.left source.old) orders × (O.held sink.new ≡ O.held sink.old ++ printed orders) }
-
-    // What a sink that tells then holds: the one line of a refusal, and always what it held and more.
-    ensures refusal { IsTrue (O.tells sink.old) → IsRefusal result → O.held sink.new ≡ O.held sink.old ++ status_text result }
-    ensures more { IsTrue (O.tells sink.old) → IsFront (O.held sink.old) (O.held sink.new) }
-
-    ensures source_later { I.fault_count source.old ≤ I.fault_count source.new }
-    ensures sink_later { O.fault_count sink.old ≤ O.fault_count sink.new }
-    ensures source_tells { I.tells source.new ≡ I.tells source.old }
-    ensures sink_tells { O.tells sink.new ≡ O.tells sink.old }
-{
-    match plan_words(alloc, words) {
-        Ok(Plan::Check) => check_source(alloc, source, sink),
-        Ok(_) | Err(WordsFault::Usage) => Status::Usage.written(alloc, sink),
         Err(WordsFault::NoMemory) => Status::NoMemory,
     }
 }

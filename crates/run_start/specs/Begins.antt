@@ -1,13 +1,12 @@
--- Why a run can't begin.
+-- Why a run can't begin on its disks.
 use Rattle.std.specs.Prelude.{◌≡◌, ℕ, ◌<◌, ◌⊎◌, Bool, true, List, length, Option, Some, None}
 use Rattle.cl_base.specs.Disk.{DiskState}
-use Rattle.scenario.specs.Orders.{members_of}
 use Rattle.scenario.specs.declared.order.Order.{Order}
-use Rattle.cluster_run.specs.Disks.{RoseAt, IsUsedAt}
-use Rattle.cluster_run.specs.Needed.{has_backup, disks_of}
-use Rattle.cluster_run.specs.Reading.{AreOrders, IsUnread}
-use Rattle.cluster_run.specs.declared.status.Status.{Status}
-use Rattle.cluster_run.specs.declared.status.Status.TheVariants.{Done, WriteFault, FewDisks, Used, DiskFault, NoMemory}
+use Rattle.run_start.specs.Disks.{RoseAt, IsUsedAt}
+use Rattle.run_start.specs.Needed.{has_backup}
+use Rattle.run_start.specs.Reading.{AreOrders}
+use Rattle.run_start.specs.declared.status.Status.{Status}
+use Rattle.run_start.specs.declared.status.Status.TheVariants.{FewDisks, Used, DiskFault, NoMemory}
 
 -- why a run of so many members, which needs so many disks, can't begin on these disks
 abbrev pub CannotBegin : {D : Type 0} → (D → Bool) → (D → DiskState) → (D → ℕ) → ℕ → ℕ → List D → List D → Status → Type 0
@@ -43,26 +42,3 @@ FormatFails faults count old new _ = ⊥
 abbrev pub IfFails : {D : Type 0} → (D → ℕ) → ℕ → List D → List D → Option Status → Type 0
 IfFails faults count old new None = Unit {0}
 IfFails faults count old new (Some s) = FormatFails faults count old new s
-
--- a run that began went to its end, or the sink failed
-abbrev pub IsEnd : Status → Type 0
-IsEnd Done = Unit {0}
-IsEnd WriteFault = Unit {0}
-IsEnd _ = ⊥
-
--- how a run of these orders on these disks ends
-abbrev pub Ends : {D : Type 0} → (D → Bool) → (D → DiskState) → (D → ℕ) → List Order → List D → List D → Status → Type 0
-Ends tells state faults orders old new Done = Unit {0}
-Ends tells state faults orders old new WriteFault = Unit {0}
-Ends tells state faults orders old new s = CannotBegin tells state faults (members_of orders) (disks_of orders) old new s
-
-module _ {D : Type 0} (tells : D → Bool) (state : D → DiskState) (faults : D → ℕ) (old new : List D) where
-  -- How a run of what a source had ends, on these disks: a run that began, and one that couldn't, had the orders that were
-  -- read; else they couldn't be read. What failed in writing is told apart.
-  abbrev pub IsRun : Bool → List ℕ → ℕ → ℕ → Status → Type 0
-  IsRun told had before after Done = (orders : List Order) × AreOrders told had orders
-  IsRun told had before after WriteFault = Unit {0}
-  IsRun told had before after (FewDisks m n) = (orders : List Order) × AreOrders told had orders × CannotBegin tells state faults (members_of orders) (disks_of orders) old new (FewDisks m n)
-  IsRun told had before after (Used m f) = (orders : List Order) × AreOrders told had orders × CannotBegin tells state faults (members_of orders) (disks_of orders) old new (Used m f)
-  IsRun told had before after (DiskFault m) = (orders : List Order) × AreOrders told had orders × CannotBegin tells state faults (members_of orders) (disks_of orders) old new (DiskFault m)
-  IsRun told had before after s = IsUnread told had before after s

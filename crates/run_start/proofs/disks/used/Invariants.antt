@@ -1,7 +1,7 @@
 use Rattle.std.proofs.Common.{ℕ, Bool, List, get_or}
 use Rattle.cl_base.specs.Disk.{DiskState}
-use Rattle.cluster_run.specs.Disks.{IsLookedAt, AreUnused}
-use Rattle.cluster_run.proofs.disks.used.Given as goal
+use Rattle.run_start.specs.Disks.{IsLookedAt, AreUnused}
+use Rattle.run_start.proofs.disks.used.Given as goal
 
 -- the disks up to here were looked at, and are empty
 pub record Looked {D : Type 0} (tells honest : D → Bool) (state : D → DiskState) (faults : D → ℕ) (old new : List D) (member : ℕ) : Type 0 where

@@ -1,5 +1,5 @@
 use Rattle.std.proofs.Common.{ℕ, ◌≤◌, List, get_or}
-use Rattle.cluster_run.proofs.disks.format_all.Given as goal
+use Rattle.run_start.proofs.disks.format_all.Given as goal
 
 -- no count fell
 pub record Later {D : Type 0} (faults : D → ℕ) (old new : List D) : Type 0 where

@@ -1,11 +1,11 @@
 -- How a call of the program ends, and what is written then.
 use Rattle.std.specs.Prelude.{◌≡◌, ◌⊎◌, ℕ, List, [], ◌++◌, codes, Result, Ok, Err}
-use Rattle.std.specs.Fmt.{decimal}
 use Rattle.cl_base.specs.declared.fault.Trouble.{Trouble}
 use Rattle.cl_base.specs.declared.fault.Trouble.TheVariants as trouble
 use Rattle.scenario.specs.Causes.{cause_text}
-use Rattle.cluster_run.specs.declared.status.Status.{Status}
-use Rattle.cluster_run.specs.declared.status.Status.TheVariants as status
+use Rattle.line_text.specs.Pieces.{count}
+use Rattle.run_start.specs.declared.status.Status.{Status}
+use Rattle.run_start.specs.declared.status.Status.TheVariants as status
 
 -- the exit status of the program
 abbrev pub exit_code : Status → ℕ
@@ -19,10 +19,6 @@ exit_code status.ReadFault = 7
 exit_code status.WriteFault = 8
 exit_code (status.DiskFault member) = 9
 exit_code status.NoMemory = 10
-
--- words, and a number behind them
-abbrev pub count : List ℕ → ℕ → List ℕ
-count words n = words ++ decimal n
 
 -- what a refusal writes: one line. The others write nothing of their own.
 abbrev pub status_text : Status → List ℕ

@@ -1,7 +1,7 @@
 use Rattle.std.proofs.Common.{◌≡◌, ◌≤◌, ℕ, Bool, IsTrue}
 use Rattle.cl_base.specs.Disk.{DiskState}
-use Rattle.cluster_run.specs.Disks.{AreEmpty}
-use Rattle.cluster_run.proofs.disks.first_used.Given as goal
+use Rattle.run_start.specs.Disks.{AreEmpty}
+use Rattle.run_start.proofs.disks.first_used.Given as goal
 
 -- the files up to here are empty, and the disk is as it was
 pub record Looked {D : Type 0} (tells honest : D → Bool) (state : D → DiskState) (faults : D → ℕ) (old new : D) (file : ℕ) : Type 0 where

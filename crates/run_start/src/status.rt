@@ -1,12 +1,11 @@
 // How a call of the program ends.
-ghost use Rattle.std.specs.Prelude.{◌≡◌, ◌≤◌, ◌++◌, ◌⊎◌, OnOk, IsTrue, codes, string_bytes};
-ghost use Rattle.cluster_run.specs.Status.{exit_code, count, status_text, ended, IsOrGivesUp};
+ghost use Rattle.std.specs.Prelude.{◌≡◌, ◌≤◌, ◌++◌, ◌⊎◌, OnOk, IsTrue, string_bytes};
+ghost use Rattle.run_start.specs.Status.{exit_code, status_text, ended, IsOrGivesUp};
 ghost use Rattle.line_text.specs.Written.{IsFront};
 ghost use Rattle.cl_base.specs.Counts.{Rose};
-ghost use Rattle.scenario.specs.Causes.{cause_text};
 
 use cl_base::{NoMemory, Sink, Trouble};
-use line_text::give;
+use line_text::{give, put};
 use scenario::Cause;
 use std::alloc::Global;
 
@@ -35,66 +34,33 @@ pub enum Status {
     NoMemory,
 }
 
-fn put(page: &mut String, words: &str) -> Result<(), NoMemory>
-    ensures { OnOk result (string_bytes page.new ≡ string_bytes page.old ++ words.now) }
-{
-    page.push_str(words)?;
-    Ok(())
-}
-
-/// Words, and a number behind them.
-fn put_count(page: &mut String, words: &str, n: u64) -> Result<(), NoMemory>
-    ensures { OnOk result (string_bytes page.new ≡ string_bytes page.old ++ count words.now n) }
-{
-    page.push_str(words)?;
-    write!(page, "{n}")?;
-    Ok(())
-}
-
-fn put_cause(page: &mut String, cause: Cause) -> Result<(), NoMemory>
-    ensures { OnOk result (string_bytes page.new ≡ string_bytes page.old ++ cause_text cause) }
-{
-    put(page, cause.text())
-}
-
-fn put_file(page: &mut String, file: u32) -> Result<(), NoMemory>
-    ensures { OnOk result (string_bytes page.new ≡ string_bytes page.old ++ count (codes ": file ") file) }
-{
-    page.push_str(": file ")?;
-    write!(page, "{file}")?;
-    Ok(())
-}
-
 fn put_refused(page: &mut String, line: u64, cause: Cause) -> Result<(), NoMemory>
     ensures { OnOk result (string_bytes page.new ≡ string_bytes page.old ++ status_text (Status.Refused line cause)) }
 {
-    put_count(page, "refused line ", line)?;
-    put(page, ": ")?;
-    put_cause(page, cause)?;
+    write!(page, "refused line {line}: ")?;
+    put(page, cause.text())?;
     put(page, "\n")
 }
 
 fn put_few(page: &mut String, members: u64, disks: u64) -> Result<(), NoMemory>
     ensures { OnOk result (string_bytes page.new ≡ string_bytes page.old ++ status_text (Status.FewDisks members disks)) }
 {
-    put_count(page, "members ", members)?;
-    put_count(page, ", disks ", disks)?;
-    put(page, "\n")
+    write!(page, "members {members}, disks {disks}\n")?;
+    Ok(())
 }
 
 fn put_used(page: &mut String, member: u64, file: u32) -> Result<(), NoMemory>
     ensures { OnOk result (string_bytes page.new ≡ string_bytes page.old ++ status_text (Status.Used member file)) }
 {
-    put_count(page, "disk ", member)?;
-    put_file(page, file)?;
-    put(page, " is not empty\n")
+    write!(page, "disk {member}: file {file} is not empty\n")?;
+    Ok(())
 }
 
 fn put_disk_fault(page: &mut String, member: u64) -> Result<(), NoMemory>
     ensures { OnOk result (string_bytes page.new ≡ string_bytes page.old ++ status_text (Status.DiskFault member)) }
 {
-    put_count(page, "disk ", member)?;
-    put(page, ": fault\n")
+    write!(page, "disk {member}: fault\n")?;
+    Ok(())
 }
 
 impl Status {
@@ -152,7 +118,7 @@ impl Status {
     }
 
     /// How the call ends where it means this answer, after a text was written or not.
-    pub(crate) fn after(self, written: Result<(), Trouble>) -> Status
+    pub fn after(self, written: Result<(), Trouble>) -> Status
         ensures { result ≡ ended self written }
     {
         match written {

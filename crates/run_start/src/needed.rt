@@ -1,13 +1,10 @@
-// What is run: the orders of a source or of a generated scenario, and the members that they name.
-ghost use Rattle.std.specs.Prelude.{◌≡◌, ◌≤◌, ◌<◌, IfOk, IfErr, MatchOption};
+// What a run of orders needs: members, services, disks.
+ghost use Rattle.std.specs.Prelude.{◌≡◌, ◌≤◌, ◌<◌, MatchOption};
 ghost use Rattle.scenario.specs.Orders.{members_of, members_after};
-ghost use Rattle.cluster_run.specs.Needed.{is_of_backup, found_backup, has_backup, disks_of};
-ghost use Rattle.cluster_run.specs.Reading.{AreOrders, IsUnread};
+ghost use Rattle.run_start.specs.Needed.{is_of_backup, found_backup, has_backup, disks_of};
 
-use crate::Status;
-use cl_base::{List, NoMemory, Source};
-use echo_run::{Unread, take_all};
-use scenario::{Named, Order, ParseFault, parse};
+use cl_base::NoMemory;
+use scenario::{Named, Order};
 use service_api::Kind;
 use std::alloc::Global;
 
@@ -20,8 +17,8 @@ fn kind_of(name: Named) -> Kind {
     }
 }
 
-/// The services that a scenario's head names.
-pub(crate) fn kinds_of(alloc: Global, orders: &[Order]) -> Result<Vec<Kind>, NoMemory> {
+/// The services that a scenario's head names, in order.
+pub fn kinds_of(alloc: Global, orders: &[Order]) -> Result<Vec<Kind>, NoMemory> {
     let mut kinds = Vec::new(alloc);
     for order in orders {
         if let Order::Service { name, .. } = order
@@ -44,7 +41,7 @@ fn members_after(members: u64, order: &Order) -> u64
 }
 
 /// The members that a scenario's head names, 5 where it names none.
-pub(crate) fn members_of(orders: &[Order]) -> u64
+pub fn members_of(orders: &[Order]) -> u64
     ensures { result ≡ members_of orders.now }
 {
     orders
@@ -70,7 +67,7 @@ fn found_backup(found: bool, order: &Order) -> bool
 }
 
 /// Whether some order is of the backup.
-pub(crate) fn has_backup(orders: &[Order]) -> bool
+pub fn has_backup(orders: &[Order]) -> bool
     ensures { result ≡ has_backup orders.now }
 {
     orders
@@ -94,23 +91,4 @@ pub(crate) fn disks_of(orders: &[Order], there: u64) -> Option<u64>
         return None;
     }
     Some(members + 1)
-}
-
-/// The orders of a source, or why there are none.
-pub(crate) fn read_orders<I: Source>(alloc: Global, source: &mut I) -> Result<List<Order>, Status>
-    ensures later { I.fault_count source.old ≤ I.fault_count source.new }
-    ensures tells { I.tells source.new ≡ I.tells source.old }
-    ensures orders { IfOk result (AreOrders (I.tells source.old) (I.left source.old)) }
-    ensures unread { IfErr result (IsUnread (I.tells source.old) (I.left source.old) (I.fault_count source.old) (I.fault_count source.new)) }
-{
-    match take_all(alloc, source) {
-        Ok(bytes) => match parse(alloc, bytes.as_slice()) {
-            Ok(orders) => Ok(orders),
-            Err(ParseFault::Refused { line, cause }) => Err(Status::Refused { line, cause }),
-            Err(ParseFault::NoMemory) => Err(Status::NoMemory),
-        },
-        Err(Unread::Failed) => Err(Status::ReadFault),
-        Err(Unread::TooLong) => Err(Status::TooLong),
-        Err(Unread::NoMemory) => Err(Status::NoMemory),
-    }
 }

@@ -5,11 +5,11 @@ use Rattle.std.specs.Prelude.{if◌then◌else◌}
 use Rattle.cl_base.specs.Disk.{DiskState}
 use Rattle.scenario.specs.Orders.{members_of}
 use Rattle.scenario.specs.declared.order.Order.{Order}
-use Rattle.cluster_run.specs.Reading.{AreOrders}
-use Rattle.cluster_run.specs.Begins.{CannotBegin, LookFails, AreFew}
-use Rattle.cluster_run.specs.Needed.{has_backup, disks_of}
-use Rattle.cluster_run.specs.declared.status.Status.{Status}
-use Rattle.cluster_run.specs.declared.status.Status.TheVariants as status
+use Rattle.run_start.specs.Reading.{AreOrders}
+use Rattle.run_start.specs.Begins.{CannotBegin, LookFails, AreFew}
+use Rattle.run_start.specs.Needed.{has_backup, disks_of}
+use Rattle.run_start.specs.declared.status.Status.{Status}
+use Rattle.run_start.specs.declared.status.Status.TheVariants as status
 
 module _ {D : Type 0} (tells : D → Bool) (state : D → DiskState) (faults : D → ℕ) (members needed : ℕ) (old new : List D) where
   -- a look that fails is why the run can't begin

@@ -4,8 +4,8 @@ use Rattle.cl_base.specs.Counts.{Rose}
 use Rattle.scenario.specs.Orders.{orders_of, first_fault}
 use Rattle.scenario.specs.declared.fault.Cause.{Cause}
 use Rattle.scenario.specs.declared.order.Order.{Order}
-use Rattle.cluster_run.specs.declared.status.Status.{Status}
-use Rattle.cluster_run.specs.declared.status.Status.TheVariants.{Done, WriteFault, Refused, TooLong, ReadFault, NoMemory}
+use Rattle.run_start.specs.declared.status.Status.{Status}
+use Rattle.run_start.specs.declared.status.Status.TheVariants.{Done, WriteFault, Refused, TooLong, ReadFault, NoMemory}
 
 -- all that a source gave: what it had, where it tells that
 abbrev pub IsGiven : Bool → List ℕ → List ℕ → Type 0
