@@ -3,7 +3,7 @@ use Rattle.std.proofs.Common.{◌≡◌, ℕ, suc, ◌+◌, ◌-◌, ◌<◌, �
 use Rattle.std.proofs.lemmas.List.{drop_all}
 use Rattle.entry_log.specs.Log.{same_term}
 use Rattle.sbe_events.specs.declared.event.Event.{Event}
-use Rattle.echo_run.specs.Module.{term_of}
+use Rattle.sbe_events.specs.Spelling.{term_of}
 use Rattle.echo_run.specs.Reported.{numbered, record_of, records_on, stream_of, streams_from}
 use Rattle.echo_run.specs.declared.report.EntryLine.{EntryLine}
 use Rattle.echo_run.specs.declared.report.RecordLine.{RecordLine}
