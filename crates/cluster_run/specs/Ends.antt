@@ -1,5 +1,5 @@
 -- How a run ends.
-use Rattle.std.specs.Prelude.{◌≡◌, ℕ, Bool, List}
+use Rattle.std.specs.Prelude.{◌≡◌, ℕ, Bool, List, Result, Ok, Err}
 use Rattle.cl_base.specs.Disk.{DiskState}
 use Rattle.scenario.specs.Orders.{members_of}
 use Rattle.scenario.specs.declared.order.Order.{Order}
@@ -7,13 +7,12 @@ use Rattle.run_start.specs.Begins.{CannotBegin}
 use Rattle.run_start.specs.Needed.{disks_of}
 use Rattle.run_start.specs.Reading.{AreOrders, IsUnread}
 use Rattle.run_start.specs.declared.status.Status.{Status}
-use Rattle.run_start.specs.declared.status.Status.TheVariants.{Done, WriteFault, FewDisks, Used, DiskFault}
+use Rattle.run_start.specs.declared.status.Status.TheVariants.{Done, WriteFault, FewDisks, Used, DiskFault, NoMemory}
 
--- a run that began went to its end, or the sink failed
-abbrev pub IsEnd : Status → Type 0
-IsEnd Done = Unit {0}
-IsEnd WriteFault = Unit {0}
-IsEnd _ = ⊥
+-- how a step ends that gives up for want of memory alone
+abbrev pub or_no_memory : {E : Type 0} → Result Status E → Status
+or_no_memory (Ok s) = s
+or_no_memory (Err e) = NoMemory
 
 -- how a run of these orders on these disks ends
 abbrev pub Ends : {D : Type 0} → (D → Bool) → (D → DiskState) → (D → ℕ) → List Order → List D → List D → Status → Type 0

@@ -4,23 +4,23 @@ ghost use Rattle.cl_base.specs.Counts.{Rose};
 ghost use Rattle.plan.specs.Words.{plan_of};
 ghost use Rattle.line_text.specs.Written.{IsFront};
 ghost use Rattle.scenario.specs.Orders.{members_of as members_in, orders_of};
-ghost use Rattle.echo_run.specs.Form.{unbuilt};
+ghost use Rattle.echo_run.specs.Form.{is_of_form};
+ghost use Rattle.echo_run.specs.Headline.{Headline};
 ghost use Rattle.echo_run.specs.Reported.{run_text};
 ghost use Rattle.scenario.specs.declared.fault.Cause.{Cause};
 ghost use Rattle.scenario.specs.declared.order.Order.{Order as OneOrder};
-ghost use Rattle.run_start.specs.Status.{status_text, IsRefusal, IsOrGivesUp};
+ghost use Rattle.run_start.specs.Status.{status_text, IsRefusal, IsOrGivesUp, Leaves};
 ghost use Rattle.run_start.specs.Begins.{CannotBegin, AreFew};
 ghost use Rattle.run_start.specs.Disks.{RoseAt, IsUsedAt};
 ghost use Rattle.run_start.specs.Needed.{disks_of as disks_in, has_backup as has_backup_in};
 ghost use Rattle.run_start.specs.Reading.{IsFaulty};
 ghost use Rattle.run_listing.specs.Sinks.{Writes};
-ghost use Rattle.cluster_run.specs.Ends.{IsEnd, IsRun, Ends};
+ghost use Rattle.cluster_run.specs.Ends.{IsRun, Ends, or_no_memory};
 
 use crate::cluster::Cluster;
 use crate::disks::{backup_on, give_back, seated};
 use cl_base::{Bytes, Disk, List, NoMemory, Sink, Source, Trouble};
-use echo_run::echoed;
-use line_text::give;
+use echo_run::{echoed, headline};
 use plan::{Plan, WordsFault, plan_words};
 use run_seats::Site;
 use run_start::{
@@ -86,11 +86,8 @@ fn run_on<R: Threads + Wait + Copy + Send + Sync + 'static, O: Sink, D: Disk + D
     site: Site,
     task: Task,
 ) -> Result<Status, NoMemory>
-    ensures ends { IfOk result IsEnd }
-    ensures write_fault { result ≡ Ok Status.WriteFault → Rose (O.fault_count sink.old) (O.fault_count sink.new) }
-    ensures later { O.fault_count sink.old ≤ O.fault_count sink.new }
-    ensures tells { O.tells sink.new ≡ O.tells sink.old }
-    ensures more { IsTrue (O.tells sink.old) → IsFront (O.held sink.old) (O.held sink.new) }
+    ensures ends { IsOrGivesUp (or_no_memory result) Status.Done }
+    ensures leaves { Leaves O.tells O.held O.fault_count sink.old sink.new (or_no_memory result) }
 {
     let alloc = site.alloc;
     let seats = seated(alloc, disks, site.members)?;
@@ -115,12 +112,34 @@ fn run_on<R: Threads + Wait + Copy + Send + Sync + 'static, O: Sink, D: Disk + D
 /// All that a task writes, where it is of the form whose whole text is proved.
 fn text_of(alloc: Global, task: &Task) -> Result<Option<Bytes>, NoMemory>
     ensures text { IfOk result (λ text. IfSome text (λ t. t ≡ run_text task.now.orders)) }
-    ensures form { task.now.may_echo ≡ true → unbuilt task.now.orders ≡ None → IfOk result IsSome }
+    ensures form { task.now.may_echo ≡ true → is_of_form task.now.orders ≡ true → IfOk result IsSome }
 {
     if task.may_echo {
         return echoed(alloc, task.orders.as_slice());
     }
     Ok(None)
+}
+
+/// The run of a task whose disks are formatted.
+fn run_begun<R: Threads + Wait + Copy + Send + Sync + 'static, O: Sink, D: Disk + Drop>(
+    rt: &R,
+    sink: &mut O,
+    disks: &mut Vec<D>,
+    site: Site,
+    task: Task,
+) -> Status
+    ensures ends { IsOrGivesUp result Status.Done }
+    ensures echoed { IsTrue (O.tells sink.old) → task.may_echo ≡ true → is_of_form task.orders ≡ true → result ≡ Status.Done → O.held sink.new ≡ O.held sink.old ++ run_text task.orders }
+    ensures leaves { Leaves O.tells O.held O.fault_count sink.old sink.new result }
+{
+    match text_of(site.alloc, &task) {
+        Ok(Some(text)) => Status::given(sink, text.as_slice()),
+        Ok(None) => match run_on(rt, sink, disks, site, task) {
+            Ok(status) => status,
+            Err(NoMemory) => Status::NoMemory,
+        },
+        Err(NoMemory) => Status::NoMemory,
+    }
 }
 
 /// The run of a task, or why it can't begin.
@@ -132,22 +151,11 @@ fn run_task<R: Threads + Wait + Copy + Send + Sync + 'static, O: Sink, D: Disk +
     task: Task,
 ) -> Status
     ensures ends { Ends D.tells D.state D.fault_count task.orders disks.old.items disks.new.items result }
-    ensures write_fault { result ≡ Status.WriteFault → Rose (O.fault_count sink.old) (O.fault_count sink.new) }
-    ensures echoed { IsTrue (O.tells sink.old) → task.may_echo ≡ true → unbuilt task.orders ≡ None → result ≡ Status.Done → O.held sink.new ≡ O.held sink.old ++ run_text task.orders }
-    ensures refusal { IsTrue (O.tells sink.old) → IsRefusal result → O.held sink.new ≡ O.held sink.old ++ status_text result }
-    ensures more { IsTrue (O.tells sink.old) → IsFront (O.held sink.old) (O.held sink.new) }
-    ensures later { O.fault_count sink.old ≤ O.fault_count sink.new }
-    ensures tells { O.tells sink.new ≡ O.tells sink.old }
+    ensures echoed { IsTrue (O.tells sink.old) → task.may_echo ≡ true → is_of_form task.orders ≡ true → result ≡ Status.Done → O.held sink.new ≡ O.held sink.old ++ run_text task.orders }
+    ensures leaves { Leaves O.tells O.held O.fault_count sink.old sink.new result }
 {
     match prepared(alloc, disks.as_mut_slice(), task.orders.as_slice()) {
-        Ok(site) => match text_of(alloc, &task) {
-            Ok(Some(text)) => Status::Done.after(give(sink, text.as_slice())),
-            Ok(None) => match run_on(rt, sink, disks, site, task) {
-                Ok(status) => status,
-                Err(NoMemory) => Status::NoMemory,
-            },
-            Err(NoMemory) => Status::NoMemory,
-        },
+        Ok(site) => run_begun(rt, sink, disks, site, task),
         Err(status) => status.written(alloc, sink),
     }
 }
@@ -163,11 +171,7 @@ fn run_made<R: Threads + Wait + Copy + Send + Sync + 'static, O: Sink, D: Disk +
     requires low { 1 ≤ messages }
     requires high { messages ≤ 20000 }
     ensures ends { (orders : List OneOrder) × (has_backup_in orders ≡ false) × Ends D.tells D.state D.fault_count orders disks.old.items disks.new.items result }
-    ensures write_fault { result ≡ Status.WriteFault → Rose (O.fault_count sink.old) (O.fault_count sink.new) }
-    ensures refusal { IsTrue (O.tells sink.old) → IsRefusal result → O.held sink.new ≡ O.held sink.old ++ status_text result }
-    ensures more { IsTrue (O.tells sink.old) → IsFront (O.held sink.old) (O.held sink.new) }
-    ensures later { O.fault_count sink.old ≤ O.fault_count sink.new }
-    ensures tells { O.tells sink.new ≡ O.tells sink.old }
+    ensures leaves { Leaves O.tells O.held O.fault_count sink.old sink.new result }
 {
     match made_orders(alloc, messages) {
         Ok(orders) => {
@@ -212,7 +216,11 @@ pub fn cluster_main<
     ensures disk_fault { (member : ℕ) → result ≡ Status.DiskFault member → RoseAt D.fault_count disks.old.items disks.new.items member }
 
     // One member with the echo service, on disks of which no folder is named: the text is that of its world.
-    ensures echoed { IsTrue (I.tells source.old) → IsTrue (O.tells sink.old) → plan_of (map string_bytes words.now) ≡ Some (Plan.Run None) → result ≡ Status.Done → unbuilt (orders_of (I.left source.old)) ≡ None → O.held sink.new ≡ O.held sink.old ++ run_text (orders_of (I.left source.old)) }
+    ensures echoed { IsTrue (I.tells source.old) → IsTrue (O.tells sink.old) → plan_of (map string_bytes words.now) ≡ Some (Plan.Run None) → result ≡ Status.Done → is_of_form (orders_of (I.left source.old)) ≡ true → O.held sink.new ≡ O.held sink.old ++ run_text (orders_of (I.left source.old)) }
+
+    // In the world that these orders reach, whose text is written, the service's inputs are a front of the printed log, and
+    // each record is owed by its entry and sent once, by the one leader of its term.
+    ensures headline { IsTrue (I.tells source.old) → plan_of (map string_bytes words.now) ≡ Some (Plan.Run None) → result ≡ Status.Done → is_of_form (orders_of (I.left source.old)) ≡ true → Headline (orders_of (I.left source.old)) }
 
     // What a sink that tells then holds: the one line of a refusal, and always what it held and more.
     ensures refusal { IsTrue (O.tells sink.old) → IsRefusal result → O.held sink.new ≡ O.held sink.old ++ status_text result }
@@ -223,6 +231,7 @@ pub fn cluster_main<
     ensures source_tells { I.tells source.new ≡ I.tells source.old }
     ensures sink_tells { O.tells sink.new ≡ O.tells sink.old }
 {
+    headline();
     match plan_words(alloc, words) {
         Ok(Plan::Run { dir }) => match read_orders(alloc, source) {
             Ok(orders) => {

@@ -1,9 +1,11 @@
 -- How a call of the program ends, and what is written then.
-use Rattle.std.specs.Prelude.{◌≡◌, ◌⊎◌, ℕ, List, [], ◌++◌, codes, Result, Ok, Err}
+use Rattle.std.specs.Prelude.{◌≡◌, ◌⊎◌, ℕ, ◌≤◌, Bool, IsTrue, List, [], ◌++◌, codes, Result, Ok, Err}
+use Rattle.cl_base.specs.Counts.{Rose}
 use Rattle.cl_base.specs.declared.fault.Trouble.{Trouble}
 use Rattle.cl_base.specs.declared.fault.Trouble.TheVariants as trouble
 use Rattle.scenario.specs.Causes.{cause_text}
 use Rattle.line_text.specs.Pieces.{count}
+use Rattle.line_text.specs.Written.{IsFront}
 use Rattle.run_start.specs.declared.status.Status.{Status}
 use Rattle.run_start.specs.declared.status.Status.TheVariants as status
 
@@ -49,3 +51,12 @@ IsRefusal status.Done = ⊥
 IsRefusal status.WriteFault = ⊥
 IsRefusal status.NoMemory = ⊥
 IsRefusal _ = Unit {0}
+
+-- What a call that ends so leaves of a sink: WriteFault comes only where its count rose. Where it tells what it holds, that
+-- is what it held and more: the one line of a refusal.
+pub record Leaves {O : Type 0} (tells : O → Bool) (held : O → List ℕ) (faults : O → ℕ) (old new : O) (given : Status) : Type 0 where
+  pub later : faults old ≤ faults new
+  pub same : tells new ≡ tells old
+  pub fault : given ≡ status.WriteFault → Rose (faults old) (faults new)
+  pub refusal : IsTrue (tells old) → IsRefusal given → held new ≡ held old ++ status_text given
+  pub more : IsTrue (tells old) → IsFront (held old) (held new)

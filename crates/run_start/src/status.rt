@@ -1,11 +1,12 @@
 // How a call of the program ends.
 ghost use Rattle.std.specs.Prelude.{◌≡◌, ◌≤◌, ◌++◌, ◌⊎◌, OnOk, IsTrue, string_bytes};
-ghost use Rattle.run_start.specs.Status.{exit_code, status_text, ended, IsOrGivesUp};
+ghost use Rattle.run_start.specs.Status.{exit_code, status_text, ended, IsOrGivesUp, Leaves};
 ghost use Rattle.line_text.specs.Written.{IsFront};
 ghost use Rattle.cl_base.specs.Counts.{Rose};
+ghost use Rattle.scenario.specs.Causes.{cause_text};
 
 use cl_base::{NoMemory, Sink, Trouble};
-use line_text::{give, put};
+use line_text::{give, put, put_count};
 use scenario::Cause;
 use std::alloc::Global;
 
@@ -34,11 +35,18 @@ pub enum Status {
     NoMemory,
 }
 
+fn put_cause(page: &mut String, cause: Cause) -> Result<(), NoMemory>
+    ensures { OnOk result (string_bytes page.new ≡ string_bytes page.old ++ cause_text cause) }
+{
+    put(page, cause.text())
+}
+
 fn put_refused(page: &mut String, line: u64, cause: Cause) -> Result<(), NoMemory>
     ensures { OnOk result (string_bytes page.new ≡ string_bytes page.old ++ status_text (Status.Refused line cause)) }
 {
-    write!(page, "refused line {line}: ")?;
-    put(page, cause.text())?;
+    put_count(page, "refused line ", line)?;
+    put(page, ": ")?;
+    put_cause(page, cause)?;
     put(page, "\n")
 }
 
@@ -52,8 +60,9 @@ fn put_few(page: &mut String, members: u64, disks: u64) -> Result<(), NoMemory>
 fn put_used(page: &mut String, member: u64, file: u32) -> Result<(), NoMemory>
     ensures { OnOk result (string_bytes page.new ≡ string_bytes page.old ++ status_text (Status.Used member file)) }
 {
-    write!(page, "disk {member}: file {file} is not empty\n")?;
-    Ok(())
+    put_count(page, "disk ", member)?;
+    put_count(page, ": file ", file as u64)?;
+    put(page, " is not empty\n")
 }
 
 fn put_disk_fault(page: &mut String, member: u64) -> Result<(), NoMemory>
@@ -109,12 +118,22 @@ impl Status {
         ensures fault { result ≡ Status.WriteFault → self ≡ Status.WriteFault ⊎ Rose (O.fault_count sink.old) (O.fault_count sink.new) }
         ensures text { IsTrue (O.tells sink.old) → result ≡ self → O.held sink.new ≡ O.held sink.old ++ status_text self }
         ensures grows { IsTrue (O.tells sink.old) → IsFront (O.held sink.old) (O.held sink.new) }
+        ensures leaves { (self ≡ Status.WriteFault → ⊥) → Leaves O.tells O.held O.fault_count sink.old sink.new result }
     {
         let mut page = String::new(alloc);
         match self.put(&mut page) {
             Ok(()) => self.after(give(sink, page.as_bytes())),
             Err(NoMemory) => Status::NoMemory,
         }
+    }
+
+    /// Writes all of a text, and says how a call ends that is done with it.
+    pub fn given<O: Sink>(sink: &mut O, text: &[u8]) -> Status
+        ensures answer { IsOrGivesUp result Status.Done }
+        ensures leaves { Leaves O.tells O.held O.fault_count sink.old sink.new result }
+        ensures whole { IsTrue (O.tells sink.old) → result ≡ Status.Done → O.held sink.new ≡ O.held sink.old ++ text.now }
+    {
+        Status::Done.after(give(sink, text))
     }
 
     /// How the call ends where it means this answer, after a text was written or not.

@@ -1,5 +1,5 @@
 use Rattle.std.proofs.Common.{◌≡◌, ⊎_elim, length, arith}
-use Rattle.run_start.proofs.Reading.{all_read}
+use Rattle.run_start.proofs.Taken.{all_read}
 use Rattle.run_start.proofs.reading.take_all.Goals as goal
 
 pub returns-then-n-eq0-clause-given : goal.returns-then-n-eq0-clause-given
