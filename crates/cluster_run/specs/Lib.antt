@@ -1,4 +1,5 @@
 pub mod Status
+pub mod Streams
 pub mod Reading
 pub mod Disks
 pub mod Needed

@@ -13,6 +13,7 @@ mod orders;
 mod reporting;
 mod rounds;
 mod status;
+mod stream;
 mod task;
 mod telling;
 mod top;

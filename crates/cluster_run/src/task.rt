@@ -5,8 +5,8 @@ ghost use Rattle.cluster_run.specs.Needed.{is_of_backup, found_backup, has_backu
 ghost use Rattle.cluster_run.specs.Reading.{AreOrders, IsUnread};
 
 use crate::Status;
+use crate::stream::{Unread, take_all};
 use cl_base::{List, NoMemory, Source};
-use echo_run::{Unread, take_all};
 use scenario::{Named, Order, ParseFault, parse};
 use service_api::Kind;
 use std::alloc::Global;

@@ -5,7 +5,7 @@ ghost use Rattle.plan.specs.Words.{plan_of};
 ghost use Rattle.line_text.specs.Written.{IsFront};
 ghost use Rattle.scenario.specs.Orders.{members_of as members_in, orders_of};
 ghost use Rattle.cluster_run.specs.Needed.{disks_of as disks_in, has_backup as has_backup_in};
-ghost use Rattle.echo_run.specs.Form.{unbuilt};
+ghost use Rattle.echo_run.specs.Form.{is_of_form};
 ghost use Rattle.echo_run.specs.Reported.{run_text};
 ghost use Rattle.scenario.specs.declared.fault.Cause.{Cause};
 ghost use Rattle.cluster_run.specs.Status.{status_text, IsRefusal, IsOrGivesUp};
@@ -138,7 +138,7 @@ fn run_on<R: Threads + Wait + Copy + Send + Sync + 'static, O: Sink, D: Disk + D
 /// All that a task writes, where it is of the form whose whole text is proved.
 fn text_of(alloc: Global, task: &Task) -> Result<Option<Bytes>, NoMemory>
     ensures text { IfOk result (λ text. IfSome text (λ t. t ≡ run_text task.now.orders)) }
-    ensures form { task.now.may_echo ≡ true → unbuilt task.now.orders ≡ None → IfOk result IsSome }
+    ensures form { task.now.may_echo ≡ true → is_of_form task.now.orders ≡ true → IfOk result IsSome }
 {
     if task.may_echo {
         return echoed(alloc, task.orders.as_slice());
@@ -156,7 +156,7 @@ fn run_task<R: Threads + Wait + Copy + Send + Sync + 'static, O: Sink, D: Disk +
 ) -> Status
     ensures ends { Ends D.tells D.state D.fault_count task.orders disks.old.items disks.new.items result }
     ensures write_fault { result ≡ Status.WriteFault → Rose (O.fault_count sink.old) (O.fault_count sink.new) }
-    ensures echoed { IsTrue (O.tells sink.old) → task.may_echo ≡ true → unbuilt task.orders ≡ None → result ≡ Status.Done → O.held sink.new ≡ O.held sink.old ++ run_text task.orders }
+    ensures echoed { IsTrue (O.tells sink.old) → task.may_echo ≡ true → is_of_form task.orders ≡ true → result ≡ Status.Done → O.held sink.new ≡ O.held sink.old ++ run_text task.orders }
     ensures refusal { IsTrue (O.tells sink.old) → IsRefusal result → O.held sink.new ≡ O.held sink.old ++ status_text result }
     ensures more { IsTrue (O.tells sink.old) → IsFront (O.held sink.old) (O.held sink.new) }
     ensures later { O.fault_count sink.old ≤ O.fault_count sink.new }
@@ -269,7 +269,7 @@ pub fn cluster_main<
     ensures disk_fault { (member : ℕ) → result ≡ Status.DiskFault member → RoseAt D.fault_count disks.old.items disks.new.items member }
 
     // One member with the echo service, on disks of which no folder is named: the text is that of its world.
-    ensures echoed { IsTrue (I.tells source.old) → IsTrue (O.tells sink.old) → plan_of (map string_bytes words.now) ≡ Some (Plan.Run None) → result ≡ Status.Done → unbuilt (orders_of (I.left source.old)) ≡ None → O.held sink.new ≡ O.held sink.old ++ run_text (orders_of (I.left source.old)) }
+    ensures echoed { IsTrue (I.tells source.old) → IsTrue (O.tells sink.old) → plan_of (map string_bytes words.now) ≡ Some (Plan.Run None) → result ≡ Status.Done → is_of_form (orders_of (I.left source.old)) ≡ true → O.held sink.new ≡ O.held sink.old ++ run_text (orders_of (I.left source.old)) }
 
     // What a sink that tells then holds: the one line of a refusal, and always what it held and more.
     ensures refusal { IsTrue (O.tells sink.old) → IsRefusal result → O.held sink.new ≡ O.held sink.old ++ status_text result }
