@@ -1,9 +1,8 @@
 -- What stands on a page after each entry or stream, and what is still to come.
 use Rattle.std.proofs.Common.{◌≡◌, ℕ, suc, ◌+◌, ◌-◌, ◌<◌, ◌≤◌, List, [], ◌∷◌, ◌++◌, length, drop, get_or, ◌∙◌, ap, arith}
 use Rattle.std.proofs.lemmas.List.{drop_all}
-use Rattle.std.proofs.lemmas.List.Sums.{length-filter, count_by-le-length}
 use Rattle.sbe_events.specs.declared.event.Event.{Event}
-use Rattle.echo_run.specs.Text.{entry_line, entry_lines, is_on, records_on, stream_text, streams_from}
+use Rattle.echo_run.specs.Text.{entry_line, entry_lines, records_on, stream_text, streams_from}
 use Rattle.echo_run.specs.declared.sent.Sent.{Sent}
 use Rattle.echo_run.proofs.Sending.{next_piece, last_piece, next_item}
 
@@ -34,7 +33,3 @@ streams_more most k sent was now whole within so_far put =
 
 pub streams_done : (most k : ℕ) (sent : List Sent) (was whole : List ℕ) → most ≤ k → was ++ streams_from (most - k) k sent ≡ whole → was ≡ whole
 streams_done most k sent was whole past so_far = last_piece whole was _ so_far (streams_end most k sent past)
-
--- no more records are on a stream than there are
-pub on_few : (stream : ℕ) (sent : List Sent) → length (records_on stream sent) ≤ length sent
-on_few stream sent = let a = length-filter (is_on stream) sent in let b = count_by-le-length (is_on stream) sent in omega (arith, a, b)

@@ -44,7 +44,6 @@ fn is_on(stream: u64, s: &Sent) -> bool
 }
 
 /// How many records are on a stream.
-#[tactic(auto, using(crate::proofs::Lines::on_few))]
 fn count_on(stream: u64, sent: &[Sent]) -> u64
     requires { stream < 64 }
     ensures { result ≡ length (records_on stream sent.now) }
