@@ -1,13 +1,16 @@
 -- How a run ends.
-use Rattle.std.specs.Prelude.{◌≡◌, ℕ, Bool, List, Result, Ok, Err}
+use Rattle.std.specs.Prelude.{◌≡◌, ℕ, Bool, false, List, Option, Some, None, Result, Ok, Err}
 use Rattle.cl_base.specs.Disk.{DiskState}
+use Rattle.plan.specs.declared.words.Plan.{Plan}
+use Rattle.plan.specs.declared.words.Plan.TheVariants as plans
 use Rattle.scenario.specs.Orders.{members_of}
 use Rattle.scenario.specs.declared.order.Order.{Order}
 use Rattle.run_start.specs.Begins.{CannotBegin}
-use Rattle.run_start.specs.Needed.{disks_of}
-use Rattle.run_start.specs.Reading.{AreOrders, IsUnread}
+use Rattle.run_start.specs.Needed.{has_backup, disks_of}
+use Rattle.run_start.specs.Reading.{AreOrders, IsUnread, IsChecked}
+use Rattle.run_start.specs.Status.{IsOrGivesUp}
 use Rattle.run_start.specs.declared.status.Status.{Status}
-use Rattle.run_start.specs.declared.status.Status.TheVariants.{Done, WriteFault, FewDisks, Used, DiskFault, NoMemory}
+use Rattle.run_start.specs.declared.status.Status.TheVariants.{Done, Usage, WriteFault, FewDisks, Used, DiskFault, NoMemory}
 
 -- how a step ends that gives up for want of memory alone
 abbrev pub or_no_memory : {E : Type 0} → Result Status E → Status
@@ -30,3 +33,10 @@ module _ {D : Type 0} (tells : D → Bool) (state : D → DiskState) (faults : D
   IsRun told had before after (Used m f) = (orders : List Order) × AreOrders told had orders × CannotBegin tells state faults (members_of orders) (disks_of orders) old new (Used m f)
   IsRun told had before after (DiskFault m) = (orders : List Order) × AreOrders told had orders × CannotBegin tells state faults (members_of orders) (disks_of orders) old new (DiskFault m)
   IsRun told had before after s = IsUnread told had before after s
+
+  -- How a call ends whose words ask for this, if they ask for something.
+  abbrev pub IsAnswered : Option Plan → Bool → List ℕ → ℕ → ℕ → Status → Type 0
+  IsAnswered (Some (plans.Run dir)) told had before after s = IsRun told had before after s
+  IsAnswered (Some (plans.Make n dir)) told had before after s = (orders : List Order) × (has_backup orders ≡ false) × Ends tells state faults orders old new s
+  IsAnswered (Some plans.Check) told had before after s = IsChecked told had before after s
+  IsAnswered None told had before after s = IsOrGivesUp s Usage

@@ -15,7 +15,7 @@ ghost use Rattle.run_start.specs.Disks.{RoseAt, IsUsedAt};
 ghost use Rattle.run_start.specs.Needed.{disks_of as disks_in, has_backup as has_backup_in};
 ghost use Rattle.run_start.specs.Reading.{IsFaulty};
 ghost use Rattle.run_listing.specs.Sinks.{Writes};
-ghost use Rattle.cluster_run.specs.Ends.{IsRun, Ends, or_no_memory};
+ghost use Rattle.cluster_run.specs.Ends.{IsRun, IsAnswered, Ends, or_no_memory};
 
 use crate::cluster::Cluster;
 use crate::disks::{backup_on, give_back, seated};
@@ -43,13 +43,13 @@ struct Task {
 }
 
 /// The members and services that orders name.
-fn site_of(alloc: Global, members: u64, orders: &[Order]) -> Result<Site, Status>
+fn site_of(alloc: Global, orders: &[Order]) -> Result<Site, Status>
     ensures { IfErr result (λ s. s ≡ Status.NoMemory) }
 {
     let Ok(kinds) = kinds_of(alloc, orders) else {
         return Err(Status::NoMemory);
     };
-    match Site::new(alloc, members, kinds) {
+    match Site::new(alloc, members_of(orders), kinds) {
         Some(site) => Ok(site),
         None => Err(Status::NoMemory),
     }
@@ -60,7 +60,7 @@ fn prepared<D: Disk>(alloc: Global, disks: &mut [D], orders: &[Order]) -> Result
     ensures { IfErr result (CannotBegin D.tells D.state D.fault_count (members_in orders.now) (disks_in orders.now) disks.old disks.new) }
 {
     match prepare(disks, orders) {
-        Ok(()) => site_of(alloc, members_of(orders), orders),
+        Ok(()) => site_of(alloc, orders),
         Err(status) => Err(status),
     }
 }
@@ -186,11 +186,44 @@ fn run_made<R: Threads + Wait + Copy + Send + Sync + 'static, O: Sink, D: Disk +
     }
 }
 
+/// How a call ends with these words.
+fn answer<R: Threads + Wait + Copy + Send + Sync + 'static, I: Source, O: Sink, D: Disk + Drop>(
+    rt: &R,
+    alloc: Global,
+    words: &[String],
+    source: &mut I,
+    sink: &mut O,
+    disks: &mut Vec<D>,
+) -> Status
+    ensures ends { IsAnswered D.tells D.state D.fault_count disks.old.items disks.new.items (plan_of (map string_bytes words.now)) (I.tells source.old) (I.left source.old) (I.fault_count source.old) (I.fault_count source.new) result }
+    ensures echoed { IsTrue (I.tells source.old) → IsTrue (O.tells sink.old) → plan_of (map string_bytes words.now) ≡ Some (Plan.Run None) → result ≡ Status.Done → is_of_form (orders_of (I.left source.old)) ≡ true → O.held sink.new ≡ O.held sink.old ++ run_text (orders_of (I.left source.old)) }
+    ensures leaves { Leaves O.tells O.held O.fault_count sink.old sink.new result }
+    ensures later { I.fault_count source.old ≤ I.fault_count source.new }
+    ensures tells { I.tells source.new ≡ I.tells source.old }
+{
+    match plan_words(alloc, words) {
+        Ok(Plan::Run { dir }) => match read_orders(alloc, source) {
+            Ok(orders) => {
+                let task = Task {
+                    orders,
+                    made: None,
+                    may_echo: dir.is_none(),
+                };
+                run_task(rt, alloc, sink, disks, task)
+            }
+            Err(status) => status.written(alloc, sink),
+        },
+        Ok(Plan::Make { n, dir: _ }) => run_made(rt, alloc, n, sink, disks),
+        Ok(Plan::Check) => check_source(alloc, source, sink),
+        Err(WordsFault::Usage) => Status::Usage.written(alloc, sink),
+        Err(WordsFault::NoMemory) => Status::NoMemory,
+    }
+}
+
 /// Runs the scenario that a source gives, or a generated one, on these disks, which are empty, and writes the order
 /// lines and the report, the summary, or the one line of a refusal. The answers stand in `Status`. `check` and every
 /// other list of words are answered as by `run_start::check_main`. A scenario with an order of the backup takes one disk more than
 /// its members: the one behind theirs, which is named by the number of members.
-#[tactic(auto, using(run_start::proofs::Beginning::few_given, run_start::proofs::Beginning::few_alone))]
 pub fn cluster_main<
     R: Threads + Wait + Copy + Send + Sync + 'static,
     I: Source,
@@ -232,21 +265,5 @@ pub fn cluster_main<
     ensures sink_tells { O.tells sink.new ≡ O.tells sink.old }
 {
     headline();
-    match plan_words(alloc, words) {
-        Ok(Plan::Run { dir }) => match read_orders(alloc, source) {
-            Ok(orders) => {
-                let task = Task {
-                    orders,
-                    made: None,
-                    may_echo: dir.is_none(),
-                };
-                run_task(rt, alloc, sink, disks, task)
-            }
-            Err(status) => status.written(alloc, sink),
-        },
-        Ok(Plan::Make { n, dir: _ }) => run_made(rt, alloc, n, sink, disks),
-        Ok(Plan::Check) => check_source(alloc, source, sink),
-        Err(WordsFault::Usage) => Status::Usage.written(alloc, sink),
-        Err(WordsFault::NoMemory) => Status::NoMemory,
-    }
+    answer(rt, alloc, words, source, sink, disks)
 }

@@ -26,7 +26,7 @@ use Rattle.echo_run.specs.declared.module.Module.{Module}
 use Rattle.echo_run.specs.declared.run.Run.{Run}
 use Rattle.echo_run.specs.declared.sent.Sent.{Sent}
 use Rattle.service_api.specs.declared.echo.Echo.{Echo}
-use Rattle.echo_run.proofs.Parts.{take-add}
+use Rattle.line_text.proofs.Parts.{take-add}
 use Rattle.std.proofs.lemmas.List.Sums.{fold-append}
 use Rattle.echo_run.proofs.HeadlineEntries.{push_fold}
 use Rattle.echo_run.proofs.Writing.{entries_writable}

@@ -1,5 +1,5 @@
 -- The lines of a run's text, each ended by a line feed.
-use Rattle.std.specs.Prelude.{ℕ, zero, suc, pos, Bool, List, [], ◌∷◌, ◌++◌, filter, length, codes, Option, Some, None}
+use Rattle.std.specs.Prelude.{ℕ, ℤ, zero, suc, pos, Bool, List, [], ◌∷◌, ◌++◌, filter, length, codes, Option, Some, None}
 use Rattle.std.specs.List.{flat_map}
 use Rattle.std.specs.Fmt.{decimal, signed_decimal}
 use Rattle.entry_log.specs.Log.{same_term}
@@ -80,3 +80,10 @@ stream_text k (s ∷ records) = count (codes "stream ") k ++ count (codes " egre
 unfoldable pub streams_from : ℕ → ℕ → List Sent → List ℕ
 streams_from zero k sent = []
 streams_from (suc n) k sent = stream_text k (records_on k sent) ++ streams_from n (suc k) sent
+
+-- ---- the member
+
+-- its candidate term, its entries, how many of them are in the printed log, and its commit
+abbrev pub member_line : ℤ → ℕ → ℕ → ℕ → List ℕ
+member_line candidate entries same commit =
+    value (codes "member 0 up candidate ") candidate ++ count (codes " entries ") entries ++ count (codes " same ") same ++ count (codes " commit ") commit ++ codes " snapshots 0" ++ newline

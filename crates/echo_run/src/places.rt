@@ -22,6 +22,7 @@ pub(crate) fn term_of(event: &Event) -> i64
 }
 
 /// The bytes of an event.
+#[tactic(auto, using(crate::proofs::Lengths::len_counted))]
 fn event_len(event: &Event) -> u64
     requires { event_len event.now ≤ 32768 }
     ensures { result ≡ event_len event.now }

@@ -1,11 +1,10 @@
 -- What answers leave of a sink.
-use Rattle.std.proofs.Common.{◌≡◌, ℕ, Bool, List, ◌++◌, take, IsTrue, Result, Ok, Err, refl, sym, inl, inr, le_refl}
+use Rattle.std.proofs.Common.{◌≡◌, ℕ, Bool, List, ◌++◌, take, IsTrue, Result, Ok, Err, refl, sym, inl, inr}
 use Rattle.std.specs.Prelude.{OnOk, OnErr}
 use Rattle.cl_base.specs.Counts.{HasCause}
 use Rattle.cl_base.specs.declared.fault.Trouble.{Trouble}
 use Rattle.cl_base.specs.declared.fault.Trouble.TheVariants as troubles
 use Rattle.line_text.specs.Written.{IsPart, IsFront}
-use Rattle.line_text.proofs.Telling.{front_same}
 use Rattle.run_start.specs.declared.status.Status.{Status}
 use Rattle.run_start.specs.declared.status.Status.TheVariants as status
 use Rattle.run_start.specs.Status.{ended, IsOrGivesUp, Leaves}
@@ -24,16 +23,6 @@ given_up meant (Err troubles.Failed) = inr (inl refl)
 given_up meant (Err troubles.NoMemory) = inr (inr refl)
 
 module _ {O : Type 0} (tells : O → Bool) (held : O → List ℕ) (faults : O → ℕ) where
-  -- nothing was written, for want of memory
-  pub leaves_none : (a : O) → Leaves tells held faults a a status.NoMemory
-  leaves_none a = record {
-    later = le_refl (faults a);
-    same = refl;
-    fault = λ is. absurd cc;
-    refusal = λ t plain. absurd plain;
-    more = λ t. front_same (held a);
-  }
-
   -- a text was given to a sink, and the call is done
   pub leaves_given : {T : Type 0} (a b : O) (x : List ℕ) (r : Result T Trouble) → HasCause (faults a) (faults b) r → tells b ≡ tells a
       → (IsTrue (tells a) → OnOk r (held b ≡ held a ++ x)) → (IsTrue (tells a) → OnErr r (IsPart (held a) x (held b)))

@@ -1,12 +1,10 @@
-use Rattle.std.proofs.Common.{◌∙◌, sym, ap, add-one, Some, arith}
-use Rattle.scenario.specs.declared.fault.Cause.TheVariants.{NotBuilt}
+use Rattle.std.proofs.Common.{◌∙◌, sym, add-one, arith}
 use Rattle.echo_run.proofs.Forms.{goes_on, ends_at, fits_few, none_left}
-use Rattle.echo_run.proofs.form.unbuilt.Goals as goal
+use Rattle.echo_run.proofs.form.is_of_form.Goals as goal
 
 pub returns-then-not-fits : goal.returns-then-not-fits
 returns-then-not-fits c =
-    ap (λ l. Some (record { line = l; cause = NotBuilt })) c.line_of.ensures
-    ∙ sym (ends_at c.loop-order.stage c.loop-order.before c.args.orders.now c.loop-order.order-index c.order-item.result (omega arith) c.order-item.is (sym c.fits.ensures ∙ c.if-not-fits.true))
+    sym (ends_at c.loop-order.stage c.loop-order.before c.args.orders.now c.loop-order.order-index c.order-item.result (omega arith) c.order-item.is (sym c.fits.ensures ∙ c.if-not-fits.true))
     ∙ c.loop-order.invariant.same
 
 pub loop-order-preserved : goal.loop-order-preserved
