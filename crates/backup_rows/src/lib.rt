@@ -2,7 +2,9 @@
 #![tactic(auto)]
 
 mod packets;
+#[cfg(test)]
+mod stops;
 mod takes;
 
 pub use packets::again;
-pub use takes::{answers, grown, new_disk};
+pub use takes::{answers, new_disk, taken};

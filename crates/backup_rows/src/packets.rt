@@ -41,11 +41,29 @@ pub(crate) mod tests {
         111, 0, 0, 0, 7, 0, 0, 0, 0, 0, 0, 0, 8, 0, 0, 0, 0, 0, 0, 0,
     ];
 
+    /// From entry 2 on two timers of term 0, which begin at 24 and at 60.
+    pub(crate) const TIMERS: [u8; 92] = [
+        12, 0, 57, 0, 111, 0, 0, 0, 2, 0, 0, 0, 0, 0, 0, 0, 2, 0, 0, 0, 32, 0, 0, 0, 24, 0, 20, 0,
+        111, 0, 0, 0, 0, 0, 0, 0, 0, 0, 0, 0, 5, 0, 0, 0, 0, 0, 0, 0, 9, 0, 0, 0, 0, 0, 0, 0, 32,
+        0, 0, 0, 24, 0, 20, 0, 111, 0, 0, 0, 0, 0, 0, 0, 0, 0, 0, 0, 6, 0, 0, 0, 0, 0, 0, 0, 9, 0,
+        0, 0, 0, 0, 0, 0,
+    ];
+
     /// Recording 4, of the module, at 160, with no piece.
     pub(crate) const MODULE: [u8; 48] = [
         40, 0, 58, 0, 111, 0, 0, 0, 4, 0, 0, 0, 0, 0, 0, 0, 0, 0, 0, 0, 0, 0, 0, 0, 160, 0, 0, 0,
         0, 0, 0, 0, 9, 0, 0, 0, 0, 0, 0, 0, 255, 255, 255, 255, 0, 0, 0, 0,
     ];
+
+    /// The bytes with one of them changed.
+    pub(crate) fn changed(alloc: Global, bytes: &[u8], at: usize, value: u8) -> Option<Vec<u8>> {
+        let mut copy = bytes.to_vec(alloc).ok()?;
+        if at >= copy.len() {
+            return None;
+        }
+        copy[at] = value;
+        Some(copy)
+    }
 
     fn comes_back(alloc: Global, bytes: &[u8]) -> bool {
         match again(alloc, bytes) {
@@ -62,85 +80,87 @@ pub(crate) mod tests {
         }
     }
 
+    /// A byte, what it is changed to, and where the packet is then first wrong.
+    type Row = (usize, u8, u64, BadCause);
+
+    fn are_wrong(alloc: Global, packet: &[u8], rows: &[Row]) -> bool {
+        for (at, value, place, cause) in rows {
+            let Some(bytes) = changed(alloc, packet, *at, *value) else {
+                return false;
+            };
+            if wrong(alloc, &bytes) != Some((*place, *cause)) {
+                return false;
+            }
+        }
+        true
+    }
+
+    const QUERY_ROWS: [Row; 9] = [
+        (0, 15, 0, BadCause::Block),
+        (0, 17, 0, BadCause::Block),
+        (2, 59, 2, BadCause::Template),
+        (4, 112, 4, BadCause::Schema),
+        (6, 1, 6, BadCause::Value),
+        // More entries than 2^62, and fewer than none.
+        (15, 0x40, 8, BadCause::Value),
+        (15, 0x80, 8, BadCause::Value),
+        // Positions below -1.
+        (16, 254, 16, BadCause::Value),
+        (23, 254, 16, BadCause::Value),
+    ];
+
+    const LOG_ROWS: [Row; 11] = [
+        (0, 13, 0, BadCause::Block),
+        (6, 1, 6, BadCause::Value),
+        (15, 0x80, 8, BadCause::Value),
+        // Events: none, too many, one too few, one too many.
+        (16, 0, 16, BadCause::Value),
+        (16, 65, 16, BadCause::Value),
+        (16, 1, 72, BadCause::Trailing),
+        (16, 3, 108, BadCause::Short),
+        (20, 47, 108, BadCause::Short),
+        // In the first event, whose base isn't its position, and in the second.
+        (56, 1, 56, BadCause::Value),
+        (76, 23, 76, BadCause::Block),
+        (80, 110, 80, BadCause::Schema),
+    ];
+
+    const SERVICE_ROWS: [Row; 9] = [
+        (2, 56, 0, BadCause::Block),
+        (23, 0x80, 16, BadCause::Value),
+        (31, 0x80, 24, BadCause::Value),
+        (39, 0x80, 32, BadCause::Value),
+        // Pieces: fewer than none, one too few, one too many.
+        (47, 0x80, 44, BadCause::Value),
+        (44, 0, 48, BadCause::Trailing),
+        (44, 2, 76, BadCause::Short),
+        // In the piece: its template, and its deadline.
+        (54, 116, 54, BadCause::Template),
+        (75, 0x80, 68, BadCause::Value),
+    ];
+
+    #[test]
+    fn the_first_wrong_byte_is_named(rt: HostRuntime) -> Result<(), Fail> {
+        let alloc = rt.alloc();
+        assert!(rt; are_wrong(alloc, &QUERY, &QUERY_ROWS));
+        assert!(rt; are_wrong(alloc, &LOG, &LOG_ROWS));
+        assert!(rt; are_wrong(alloc, &SERVICE, &SERVICE_ROWS));
+        Ok(())
+    }
+
     #[test]
     fn packets_come_back(rt: HostRuntime) -> Result<(), Fail> {
         let alloc = rt.alloc();
         assert!(rt; comes_back(alloc, &QUERY));
         assert!(rt; comes_back(alloc, &LOG));
+        assert!(rt; comes_back(alloc, &TIMERS));
         assert!(rt; comes_back(alloc, &SERVICE));
         assert!(rt; comes_back(alloc, &MODULE));
-        Ok(())
-    }
-
-    #[test]
-    fn a_packet_of_no_template_is_wrong_at_2(rt: HostRuntime) -> Result<(), Fail> {
-        let mut bytes = QUERY;
-        bytes[2] = 59;
-        assert!(rt; wrong(rt.alloc(), &bytes) == Some((2, BadCause::Template)));
-        Ok(())
-    }
-
-    #[test]
-    fn a_position_below_minus_one_is_wrong(rt: HostRuntime) -> Result<(), Fail> {
-        let mut bytes = QUERY;
-        bytes[23] = 254;
-        assert!(rt; wrong(rt.alloc(), &bytes) == Some((16, BadCause::Value)));
-        Ok(())
-    }
-
-    #[test]
-    fn a_count_above_64_is_wrong(rt: HostRuntime) -> Result<(), Fail> {
-        let mut bytes = LOG;
-        bytes[16] = 65;
-        assert!(rt; wrong(rt.alloc(), &bytes) == Some((16, BadCause::Value)));
-        Ok(())
-    }
-
-    #[test]
-    fn an_event_too_few_leaves_bytes_behind(rt: HostRuntime) -> Result<(), Fail> {
-        let mut bytes = LOG;
-        bytes[16] = 1;
-        assert!(rt; wrong(rt.alloc(), &bytes) == Some((72, BadCause::Trailing)));
-        Ok(())
-    }
-
-    #[test]
-    fn an_event_too_many_is_short(rt: HostRuntime) -> Result<(), Fail> {
-        let mut bytes = LOG;
-        bytes[16] = 3;
-        assert!(rt; wrong(rt.alloc(), &bytes) == Some((108, BadCause::Short)));
-        Ok(())
-    }
-
-    #[test]
-    fn a_fault_inside_an_event_has_its_place_in_the_packet(rt: HostRuntime) -> Result<(), Fail> {
-        let mut bytes = LOG;
-        bytes[76] = 23;
-        assert!(rt; wrong(rt.alloc(), &bytes) == Some((76, BadCause::Block)));
-        Ok(())
-    }
-
-    #[test]
-    fn a_fault_inside_a_piece_has_its_place_in_the_packet(rt: HostRuntime) -> Result<(), Fail> {
-        let mut bytes = SERVICE;
-        bytes[54] = 116;
-        assert!(rt; wrong(rt.alloc(), &bytes) == Some((54, BadCause::Template)));
-        Ok(())
-    }
-
-    #[test]
-    fn a_count_of_pieces_below_0_is_wrong(rt: HostRuntime) -> Result<(), Fail> {
-        let mut bytes = SERVICE;
-        bytes[47] = 128;
-        assert!(rt; wrong(rt.alloc(), &bytes) == Some((44, BadCause::Value)));
-        Ok(())
-    }
-
-    #[test]
-    fn a_recording_takes_every_value(rt: HostRuntime) -> Result<(), Fail> {
-        let mut bytes = SERVICE;
-        bytes[15] = 128;
-        assert!(rt; comes_back(rt.alloc(), &bytes));
+        // A recording and a service take every value.
+        for (at, value) in [(8usize, 0u8), (15, 0x80), (40, 9), (43, 0x80)] {
+            let bytes = changed(alloc, &SERVICE, at, value).ok_or("changed")?;
+            assert!(rt; comes_back(alloc, &bytes), "byte {at}");
+        }
         Ok(())
     }
 }

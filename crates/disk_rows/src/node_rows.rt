@@ -58,7 +58,7 @@ pub fn migrated_under(
 #[cfg(test)]
 mod tests {
     use super::*;
-    use crate::disks::disk_with;
+    use crate::disks::{CHOICES, disk_with};
     use cl_base::MemberFault;
     use std::alloc::Global;
     use std::test::Fail;
@@ -86,13 +86,6 @@ mod tests {
     const MIGRATED: [u8; 32] = [
         7, 0, 0, 0, 0, 0, 0, 0, 255, 255, 255, 255, 255, 255, 255, 255, 0, 2, 0, 0, 255, 255, 255,
         255, 255, 255, 255, 255, 0, 0, 0, 0,
-    ];
-
-    const CHOICES: [Choice; 4] = [
-        Choice::Drop,
-        Choice::Keep,
-        Choice::Fill(0x5a),
-        Choice::Fill(0xa7),
     ];
 
     const BEFORE: Option<(Answer<()>, i64, Option<u8>)> = Some((DEVICE, -1, None));

@@ -94,16 +94,9 @@ pub fn terms(alloc: Global, disk: &mut MemDisk) -> Option<(usize, usize, Option<
 #[cfg(test)]
 mod tests {
     use super::*;
-    use crate::disks::disk_with;
+    use crate::disks::{CHOICES, disk_with};
     use cl_base::{Choice, MemberFault};
     use std::test::Fail;
-
-    const CHOICES: [Choice; 4] = [
-        Choice::Drop,
-        Choice::Keep,
-        Choice::Fill(0x5a),
-        Choice::Fill(0xa7),
-    ];
 
     /// More calls than a change makes.
     const NO_FUSE: u64 = 99;
