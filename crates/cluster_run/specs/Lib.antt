@@ -1,5 +1,1 @@
-pub mod Status
-pub mod Reading
-pub mod Disks
-pub mod Needed
-pub mod Begins
+pub mod Ends

@@ -1,5 +1,5 @@
 // The time of a run.
-ghost use Rattle.std.specs.Prelude.{◌≡◌, ◌≤◌, ◌*◌, ◌-◌, ◌^◌, min, ◌+◌};
+ghost use Rattle.std.specs.Prelude.{◌≡◌, ◌≤◌, ◌<◌, ◌*◌, ◌^◌, ◌+◌};
 
 use cl_base::limits::{ROUND_MS, ROUNDS_LIMIT};
 
@@ -11,19 +11,25 @@ pub(crate) struct Clock {
 }
 
 impl Clock {
-    pub(crate) fn new() -> Clock {
+    pub(crate) fn new() -> Clock
+        ensures { result.rounds ≡ 0 }
+    {
         Clock { rounds: 0 }
     }
 
     /// The time, in ms.
     pub(crate) fn now(&self) -> u64
-        ensures { result ≤ 2 ^ 20 }
+        ensures time { result ≡ 10 * self.now.rounds }
+        ensures within { result ≤ 2 ^ 20 }
     {
         ROUND_MS * self.rounds
     }
 
-    /// A round begins.
-    pub(crate) fn tick(&mut self) {
+    /// A round begins, up to the most that a scenario has.
+    pub(crate) fn tick(&mut self)
+        ensures below { self.old.rounds < 100000 → self.new.rounds ≡ self.old.rounds + 1 }
+        ensures at_most { 100000 ≤ self.old.rounds → self.new.rounds ≡ self.old.rounds }
+    {
         if self.rounds < ROUNDS_LIMIT {
             self.rounds += 1;
         }

@@ -12,10 +12,7 @@ mod joined;
 mod orders;
 mod reporting;
 mod rounds;
-mod status;
-mod task;
 mod telling;
 mod top;
 
-pub use status::Status;
-pub use top::{check_main, cluster_main};
+pub use top::cluster_main;

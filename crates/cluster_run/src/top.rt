@@ -1,31 +1,32 @@
-// The top calls.
+// The top call.
 ghost use Rattle.std.specs.Prelude.{◌≡◌, ◌≤◌, ◌<◌, ◌++◌, ◌⊎◌, ℕ, IsTrue, true, false, IfOk, IfErr, IfSome, IsSome, None, Some, Ok, Option, List, map, string_bytes, length};
 ghost use Rattle.cl_base.specs.Counts.{Rose};
 ghost use Rattle.plan.specs.Words.{plan_of};
 ghost use Rattle.line_text.specs.Written.{IsFront};
 ghost use Rattle.scenario.specs.Orders.{members_of as members_in, orders_of};
-ghost use Rattle.cluster_run.specs.Needed.{disks_of as disks_in, has_backup as has_backup_in};
-ghost use Rattle.echo_run.specs.Form.{unbuilt};
+ghost use Rattle.echo_run.specs.Form.{is_of_form};
+ghost use Rattle.echo_run.specs.Headline.{Headline};
 ghost use Rattle.echo_run.specs.Reported.{run_text};
 ghost use Rattle.scenario.specs.declared.fault.Cause.{Cause};
-ghost use Rattle.cluster_run.specs.Status.{status_text, IsRefusal, IsOrGivesUp};
-ghost use Rattle.cluster_run.specs.Begins.{CannotBegin, FormatFails, AreFew, IsEnd, IsRun, Ends};
-ghost use Rattle.cluster_run.specs.Disks.{RoseAt, IsUsedAt};
-ghost use Rattle.cluster_run.specs.Reading.{IsFaulty, IsChecked, AreOrders};
-ghost use Rattle.scenario.specs.Printing.{printed};
 ghost use Rattle.scenario.specs.declared.order.Order.{Order as OneOrder};
+ghost use Rattle.run_start.specs.Status.{status_text, IsRefusal, IsOrGivesUp, Leaves};
+ghost use Rattle.run_start.specs.Begins.{CannotBegin, AreFew};
+ghost use Rattle.run_start.specs.Disks.{RoseAt, IsUsedAt};
+ghost use Rattle.run_start.specs.Needed.{disks_of as disks_in, has_backup as has_backup_in};
+ghost use Rattle.run_start.specs.Reading.{IsFaulty};
 ghost use Rattle.run_listing.specs.Sinks.{Writes};
+ghost use Rattle.cluster_run.specs.Ends.{IsRun, IsAnswered, Ends, or_no_memory};
 
-use crate::Status;
 use crate::cluster::Cluster;
-use crate::disks::{backup_on, format_all, give_back, seated, used};
-use crate::task::{disks_of, has_backup, kinds_of, members_of, read_orders};
+use crate::disks::{backup_on, give_back, seated};
 use cl_base::{Bytes, Disk, List, NoMemory, Sink, Source, Trouble};
-use echo_run::echoed;
-use line_text::give;
+use echo_run::{echoed, headline};
 use plan::{Plan, WordsFault, plan_words};
 use run_seats::Site;
-use scenario::{Order, make, parse, print};
+use run_start::{
+    Status, check_source, has_backup, kinds_of, made_orders, members_of, prepare, read_orders,
+};
+use scenario::Order;
 use std::alloc::Global;
 use std::mem;
 use std::sync::Wait;
@@ -54,37 +55,13 @@ fn site_of(alloc: Global, members: u64, orders: &[Order]) -> Result<Site, Status
     }
 }
 
-/// The members and services that orders name, once their disks, which are empty, are formatted.
-fn formatted<D: Disk>(
-    alloc: Global,
-    disks: &mut [D],
-    needed: u64,
-    orders: &[Order],
-) -> Result<Site, Status>
-    requires { needed ≤ length disks.old }
-    ensures { IfErr result (FormatFails D.fault_count needed disks.old disks.new) }
-{
-    match format_all(disks, needed as usize) {
-        Some(status) => Err(status),
-        None => site_of(alloc, members_of(orders), orders),
-    }
-}
-
 /// The members and services that orders name, once their disks are formatted, or why the run can't begin.
-#[tactic(auto, using(crate::proofs::Beginning::look_begins))]
 fn prepared<D: Disk>(alloc: Global, disks: &mut [D], orders: &[Order]) -> Result<Site, Status>
     ensures { IfErr result (CannotBegin D.tells D.state D.fault_count (members_in orders.now) (disks_in orders.now) disks.old disks.new) }
 {
-    let there = disks.len() as u64;
-    let Some(needed) = disks_of(orders, there) else {
-        return Err(Status::FewDisks {
-            members: members_of(orders),
-            disks: there,
-        });
-    };
-    match used(disks, needed as usize) {
-        Some(status) => Err(status),
-        None => formatted(alloc, disks, needed, orders),
+    match prepare(disks, orders) {
+        Ok(()) => site_of(alloc, members_of(orders), orders),
+        Err(status) => Err(status),
     }
 }
 
@@ -109,11 +86,8 @@ fn run_on<R: Threads + Wait + Copy + Send + Sync + 'static, O: Sink, D: Disk + D
     site: Site,
     task: Task,
 ) -> Result<Status, NoMemory>
-    ensures ends { IfOk result IsEnd }
-    ensures write_fault { result ≡ Ok Status.WriteFault → Rose (O.fault_count sink.old) (O.fault_count sink.new) }
-    ensures later { O.fault_count sink.old ≤ O.fault_count sink.new }
-    ensures tells { O.tells sink.new ≡ O.tells sink.old }
-    ensures more { IsTrue (O.tells sink.old) → IsFront (O.held sink.old) (O.held sink.new) }
+    ensures ends { IsOrGivesUp (or_no_memory result) Status.Done }
+    ensures leaves { Leaves O.tells O.held O.fault_count sink.old sink.new (or_no_memory result) }
 {
     let alloc = site.alloc;
     let seats = seated(alloc, disks, site.members)?;
@@ -138,12 +112,34 @@ fn run_on<R: Threads + Wait + Copy + Send + Sync + 'static, O: Sink, D: Disk + D
 /// All that a task writes, where it is of the form whose whole text is proved.
 fn text_of(alloc: Global, task: &Task) -> Result<Option<Bytes>, NoMemory>
     ensures text { IfOk result (λ text. IfSome text (λ t. t ≡ run_text task.now.orders)) }
-    ensures form { task.now.may_echo ≡ true → unbuilt task.now.orders ≡ None → IfOk result IsSome }
+    ensures form { task.now.may_echo ≡ true → is_of_form task.now.orders ≡ true → IfOk result IsSome }
 {
     if task.may_echo {
         return echoed(alloc, task.orders.as_slice());
     }
     Ok(None)
+}
+
+/// The run of a task whose disks are formatted.
+fn run_begun<R: Threads + Wait + Copy + Send + Sync + 'static, O: Sink, D: Disk + Drop>(
+    rt: &R,
+    sink: &mut O,
+    disks: &mut Vec<D>,
+    site: Site,
+    task: Task,
+) -> Status
+    ensures ends { IsOrGivesUp result Status.Done }
+    ensures echoed { IsTrue (O.tells sink.old) → task.may_echo ≡ true → is_of_form task.orders ≡ true → result ≡ Status.Done → O.held sink.new ≡ O.held sink.old ++ run_text task.orders }
+    ensures leaves { Leaves O.tells O.held O.fault_count sink.old sink.new result }
+{
+    match text_of(site.alloc, &task) {
+        Ok(Some(text)) => Status::given(sink, text.as_slice()),
+        Ok(None) => match run_on(rt, sink, disks, site, task) {
+            Ok(status) => status,
+            Err(NoMemory) => Status::NoMemory,
+        },
+        Err(NoMemory) => Status::NoMemory,
+    }
 }
 
 /// The run of a task, or why it can't begin.
@@ -155,36 +151,12 @@ fn run_task<R: Threads + Wait + Copy + Send + Sync + 'static, O: Sink, D: Disk +
     task: Task,
 ) -> Status
     ensures ends { Ends D.tells D.state D.fault_count task.orders disks.old.items disks.new.items result }
-    ensures write_fault { result ≡ Status.WriteFault → Rose (O.fault_count sink.old) (O.fault_count sink.new) }
-    ensures echoed { IsTrue (O.tells sink.old) → task.may_echo ≡ true → unbuilt task.orders ≡ None → result ≡ Status.Done → O.held sink.new ≡ O.held sink.old ++ run_text task.orders }
-    ensures refusal { IsTrue (O.tells sink.old) → IsRefusal result → O.held sink.new ≡ O.held sink.old ++ status_text result }
-    ensures more { IsTrue (O.tells sink.old) → IsFront (O.held sink.old) (O.held sink.new) }
-    ensures later { O.fault_count sink.old ≤ O.fault_count sink.new }
-    ensures tells { O.tells sink.new ≡ O.tells sink.old }
+    ensures echoed { IsTrue (O.tells sink.old) → task.may_echo ≡ true → is_of_form task.orders ≡ true → result ≡ Status.Done → O.held sink.new ≡ O.held sink.old ++ run_text task.orders }
+    ensures leaves { Leaves O.tells O.held O.fault_count sink.old sink.new result }
 {
     match prepared(alloc, disks.as_mut_slice(), task.orders.as_slice()) {
-        Ok(site) => match text_of(alloc, &task) {
-            Ok(Some(text)) => Status::Done.after(give(sink, text.as_slice())),
-            Ok(None) => match run_on(rt, sink, disks, site, task) {
-                Ok(status) => status,
-                Err(NoMemory) => Status::NoMemory,
-            },
-            Err(NoMemory) => Status::NoMemory,
-        },
+        Ok(site) => run_begun(rt, sink, disks, site, task),
         Err(status) => status.written(alloc, sink),
-    }
-}
-
-/// The orders of the generated scenario, none of which is of a backup.
-fn made_orders(alloc: Global, messages: u64) -> Result<List<Order>, NoMemory>
-    requires low { 1 ≤ messages }
-    requires high { messages ≤ 20000 }
-    ensures { IfOk result (λ orders. has_backup_in orders ≡ false) }
-{
-    let text = make(alloc, messages)?;
-    match parse(alloc, text.as_slice()) {
-        Ok(orders) if !has_backup(orders.as_slice()) => Ok(orders),
-        _ => Err(NoMemory),
     }
 }
 
@@ -199,11 +171,7 @@ fn run_made<R: Threads + Wait + Copy + Send + Sync + 'static, O: Sink, D: Disk +
     requires low { 1 ≤ messages }
     requires high { messages ≤ 20000 }
     ensures ends { (orders : List OneOrder) × (has_backup_in orders ≡ false) × Ends D.tells D.state D.fault_count orders disks.old.items disks.new.items result }
-    ensures write_fault { result ≡ Status.WriteFault → Rose (O.fault_count sink.old) (O.fault_count sink.new) }
-    ensures refusal { IsTrue (O.tells sink.old) → IsRefusal result → O.held sink.new ≡ O.held sink.old ++ status_text result }
-    ensures more { IsTrue (O.tells sink.old) → IsFront (O.held sink.old) (O.held sink.new) }
-    ensures later { O.fault_count sink.old ≤ O.fault_count sink.new }
-    ensures tells { O.tells sink.new ≡ O.tells sink.old }
+    ensures leaves { Leaves O.tells O.held O.fault_count sink.old sink.new result }
 {
     match made_orders(alloc, messages) {
         Ok(orders) => {
@@ -218,32 +186,44 @@ fn run_made<R: Threads + Wait + Copy + Send + Sync + 'static, O: Sink, D: Disk +
     }
 }
 
-/// The orders of a source are written.
-fn check_source<I: Source, O: Sink>(alloc: Global, source: &mut I, sink: &mut O) -> Status
-    ensures ends { IsChecked (I.tells source.old) (I.left source.old) (I.fault_count source.old) (I.fault_count source.new) result }
-    ensures write_fault { result ≡ Status.WriteFault → Rose (O.fault_count sink.old) (O.fault_count sink.new) }
-    ensures refusal { IsTrue (O.tells sink.old) → IsRefusal result → O.held sink.new ≡ O.held sink.old ++ status_text result }
-    ensures checked { IsTrue (O.tells sink.old) → result ≡ Status.Done → (orders : List OneOrder) × AreOrders (I.tells source.old) (I.left source.old) orders × (O.held sink.new ≡ O.held sink.old ++ printed orders) }
-    ensures more { IsTrue (O.tells sink.old) → IsFront (O.held sink.old) (O.held sink.new) }
-    ensures source_later { I.fault_count source.old ≤ I.fault_count source.new }
-    ensures sink_later { O.fault_count sink.old ≤ O.fault_count sink.new }
-    ensures source_tells { I.tells source.new ≡ I.tells source.old }
-    ensures sink_tells { O.tells sink.new ≡ O.tells sink.old }
+/// How a call ends with these words.
+fn answer<R: Threads + Wait + Copy + Send + Sync + 'static, I: Source, O: Sink, D: Disk + Drop>(
+    rt: &R,
+    alloc: Global,
+    words: &[String],
+    source: &mut I,
+    sink: &mut O,
+    disks: &mut Vec<D>,
+) -> Status
+    ensures ends { IsAnswered D.tells D.state D.fault_count disks.old.items disks.new.items (plan_of (map string_bytes words.now)) (I.tells source.old) (I.left source.old) (I.fault_count source.old) (I.fault_count source.new) result }
+    ensures echoed { IsTrue (I.tells source.old) → IsTrue (O.tells sink.old) → plan_of (map string_bytes words.now) ≡ Some (Plan.Run None) → result ≡ Status.Done → is_of_form (orders_of (I.left source.old)) ≡ true → O.held sink.new ≡ O.held sink.old ++ run_text (orders_of (I.left source.old)) }
+    ensures leaves { Leaves O.tells O.held O.fault_count sink.old sink.new result }
+    ensures later { I.fault_count source.old ≤ I.fault_count source.new }
+    ensures tells { I.tells source.new ≡ I.tells source.old }
 {
-    match read_orders(alloc, source) {
-        Ok(orders) => match print(alloc, orders.as_slice()) {
-            Ok(text) => Status::Done.after(give(sink, text.as_slice())),
-            Err(NoMemory) => Status::NoMemory,
+    match plan_words(alloc, words) {
+        Ok(Plan::Run { dir }) => match read_orders(alloc, source) {
+            Ok(orders) => {
+                let task = Task {
+                    orders,
+                    made: None,
+                    may_echo: dir.is_none(),
+                };
+                run_task(rt, alloc, sink, disks, task)
+            }
+            Err(status) => status.written(alloc, sink),
         },
-        Err(status) => status.written(alloc, sink),
+        Ok(Plan::Make { n, dir: _ }) => run_made(rt, alloc, n, sink, disks),
+        Ok(Plan::Check) => check_source(alloc, source, sink),
+        Err(WordsFault::Usage) => Status::Usage.written(alloc, sink),
+        Err(WordsFault::NoMemory) => Status::NoMemory,
     }
 }
 
 /// Runs the scenario that a source gives, or a generated one, on these disks, which are empty, and writes the order
 /// lines and the report, the summary, or the one line of a refusal. The answers stand in `Status`. `check` and every
-/// other list of words are answered as by `check_main`. A scenario with an order of the backup takes one disk more than
+/// other list of words are answered as by `run_start::check_main`. A scenario with an order of the backup takes one disk more than
 /// its members: the one behind theirs, which is named by the number of members.
-#[tactic(auto, using(crate::proofs::Beginning::few_given, crate::proofs::Beginning::few_alone))]
 pub fn cluster_main<
     R: Threads + Wait + Copy + Send + Sync + 'static,
     I: Source,
@@ -269,7 +249,11 @@ pub fn cluster_main<
     ensures disk_fault { (member : ℕ) → result ≡ Status.DiskFault member → RoseAt D.fault_count disks.old.items disks.new.items member }
 
     // One member with the echo service, on disks of which no folder is named: the text is that of its world.
-    ensures echoed { IsTrue (I.tells source.old) → IsTrue (O.tells sink.old) → plan_of (map string_bytes words.now) ≡ Some (Plan.Run None) → result ≡ Status.Done → unbuilt (orders_of (I.left source.old)) ≡ None → O.held sink.new ≡ O.held sink.old ++ run_text (orders_of (I.left source.old)) }
+    ensures echoed { IsTrue (I.tells source.old) → IsTrue (O.tells sink.old) → plan_of (map string_bytes words.now) ≡ Some (Plan.Run None) → result ≡ Status.Done → is_of_form (orders_of (I.left source.old)) ≡ true → O.held sink.new ≡ O.held sink.old ++ run_text (orders_of (I.left source.old)) }
+
+    // In the world that these orders reach, whose text is written, the service's inputs are a front of the printed log, and
+    // each record is owed by its entry and sent once, by the one leader of its term.
+    ensures headline { IsTrue (I.tells source.old) → plan_of (map string_bytes words.now) ≡ Some (Plan.Run None) → result ≡ Status.Done → is_of_form (orders_of (I.left source.old)) ≡ true → Headline (orders_of (I.left source.old)) }
 
     // What a sink that tells then holds: the one line of a refusal, and always what it held and more.
     ensures refusal { IsTrue (O.tells sink.old) → IsRefusal result → O.held sink.new ≡ O.held sink.old ++ status_text result }
@@ -280,51 +264,6 @@ pub fn cluster_main<
     ensures source_tells { I.tells source.new ≡ I.tells source.old }
     ensures sink_tells { O.tells sink.new ≡ O.tells sink.old }
 {
-    match plan_words(alloc, words) {
-        Ok(Plan::Run { dir }) => match read_orders(alloc, source) {
-            Ok(orders) => {
-                let task = Task {
-                    orders,
-                    made: None,
-                    may_echo: dir.is_none(),
-                };
-                run_task(rt, alloc, sink, disks, task)
-            }
-            Err(status) => status.written(alloc, sink),
-        },
-        Ok(Plan::Make { n, dir: _ }) => run_made(rt, alloc, n, sink, disks),
-        Ok(Plan::Check) => check_source(alloc, source, sink),
-        Err(WordsFault::Usage) => Status::Usage.written(alloc, sink),
-        Err(WordsFault::NoMemory) => Status::NoMemory,
-    }
-}
-
-/// Reads the scenario that a source gives, and writes its orders, one a line. Every other list of words than `check` is
-/// no command's.
-pub fn check_main<I: Source, O: Sink>(
-    alloc: Global,
-    words: &[String],
-    source: &mut I,
-    sink: &mut O,
-) -> Status
-    ensures usage { result ≡ Status.Usage → plan_of (map string_bytes words.now) ≡ Some Plan.Check → ⊥ }
-    ensures usage_exactly { (plan_of (map string_bytes words.now) ≡ Some Plan.Check → ⊥) → IsOrGivesUp result Status.Usage }
-    ensures ends { plan_of (map string_bytes words.now) ≡ Some Plan.Check → IsChecked (I.tells source.old) (I.left source.old) (I.fault_count source.old) (I.fault_count source.new) result }
-    ensures write_fault { result ≡ Status.WriteFault → Rose (O.fault_count sink.old) (O.fault_count sink.new) }
-    ensures checked { IsTrue (O.tells sink.old) → result ≡ Status.Done → (orders : List OneOrder) × AreOrders (I.tells source.old) (I.left source.old) orders × (O.held sink.new ≡ O.held sink.old ++ printed orders) }
-
-    // What a sink that tells then holds: the one line of a refusal, and always what it held and more.
-    ensures refusal { IsTrue (O.tells sink.old) → IsRefusal result → O.held sink.new ≡ O.held sink.old ++ status_text result }
-    ensures more { IsTrue (O.tells sink.old) → IsFront (O.held sink.old) (O.held sink.new) }
-
-    ensures source_later { I.fault_count source.old ≤ I.fault_count source.new }
-    ensures sink_later { O.fault_count sink.old ≤ O.fault_count sink.new }
-    ensures source_tells { I.tells source.new ≡ I.tells source.old }
-    ensures sink_tells { O.tells sink.new ≡ O.tells sink.old }
-{
-    match plan_words(alloc, words) {
-        Ok(Plan::Check) => check_source(alloc, source, sink),
-        Ok(_) | Err(WordsFault::Usage) => Status::Usage.written(alloc, sink),
-        Err(WordsFault::NoMemory) => Status::NoMemory,
-    }
+    headline();
+    answer(rt, alloc, words, source, sink, disks)
 }

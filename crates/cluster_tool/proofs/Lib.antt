@@ -1,4 +1,3 @@
-pub mod Chains
 pub mod Sinks
 pub mod Spelled
 pub mod Logs

@@ -1,22 +1,20 @@
 -- What answers leave of a sink.
-use Rattle.std.proofs.Common.{◌≡◌, ℕ, Bool, List, [], ◌++◌, take, IsTrue, Result, Ok, Err, refl, sym, ap, ◌∙◌, subst, arith, inl, inr, ⊎_elim, append_assoc, append-nil, le_refl}
+use Rattle.std.proofs.Common.{◌≡◌, ℕ, Bool, List, [], ◌++◌, take, IsTrue, Result, Ok, Err, refl, sym, ap, ◌∙◌, subst, arith, inl, inr, ⊎_elim, append-nil, le_refl}
 use Rattle.std.proofs.Math.Seq.{take-nil}
 use Rattle.std.specs.Prelude.{OnOk, OnErr}
 use Rattle.cl_base.specs.Counts.{HasCause}
 use Rattle.cl_base.specs.declared.fault.Trouble.{Trouble}
 use Rattle.cl_base.specs.declared.fault.Trouble.TheVariants as troubles
-use Rattle.line_text.specs.Written.{IsPart, IsFront, IsTold, IsCutShort, Tells, Adds}
+use Rattle.line_text.specs.Written.{IsPart, IsFront, IsTold, Adds}
+use Rattle.line_text.proofs.Telling.{front_same, tells_more}
 use Rattle.cluster_tool.specs.declared.status.ToolStatus.{ToolStatus}
 use Rattle.cluster_tool.specs.declared.status.ToolStatus.TheVariants as status
 use Rattle.cluster_tool.specs.Status.{status_text, ended, IsOrGivesUp, IsRefusal}
 use Rattle.cluster_tool.specs.Told.{NoWriteFault, Told}
 use Rattle.cluster_tool.specs.Listed.{Leaves}
 
-front_same : (a : List ℕ) → IsFront a a
-front_same a = record { rest = []; whole = append-nil a }
-
-front_of : (a b c : List ℕ) → c ≡ a ++ b → IsFront a c
-front_of a b c is = record { rest = b; whole = sym is }
+front_as : (a b c : List ℕ) → c ≡ a ++ b → IsFront a c
+front_as a b c is = record { rest = b; whole = sym is }
 
 no_fault : (meant : ToolStatus) → NoWriteFault meant → status.WriteFault ≡ meant → ⊥
 no_fault meant plain is = subst NoWriteFault (sym is) plain
@@ -39,7 +37,7 @@ module _ {O : Type 0} (tells : O → Bool) (held : O → List ℕ) (faults : O �
     same = same;
     fault = λ is. absurd (no_fault meant plain (sym is));
     whole = λ t is. whole t;
-    more = λ t. front_of (held a) (status_text meant) (held b) (whole t);
+    more = λ t. front_as (held a) (status_text meant) (held b) (whole t);
   }
   told_given a b meant (Err troubles.Failed) plain cause same whole part = record {
     answer = inr (inl refl);
@@ -47,7 +45,7 @@ module _ {O : Type 0} (tells : O → Bool) (held : O → List ℕ) (faults : O �
     same = same;
     fault = λ is. cause.failed refl;
     whole = λ t is. absurd (no_fault meant plain is);
-    more = λ t. front_of (held a) (take (part t).0 (status_text meant)) (held b) (part t).2;
+    more = λ t. front_as (held a) (take (part t).0 (status_text meant)) (held b) (part t).2;
   }
   told_given a b meant (Err troubles.NoMemory) plain cause same whole part = record {
     answer = inr (inr refl);
@@ -55,7 +53,7 @@ module _ {O : Type 0} (tells : O → Bool) (held : O → List ℕ) (faults : O �
     same = same;
     fault = λ is. absurd cc;
     whole = λ t is. (part t).2 ∙ ap (λ ys. held a ++ ys) (taken (part t).0 (status_text meant) (silent meant is));
-    more = λ t. front_of (held a) (take (part t).0 (status_text meant)) (held b) (part t).2;
+    more = λ t. front_as (held a) (take (part t).0 (status_text meant)) (held b) (part t).2;
   }
 
   -- there was no memory for it
@@ -84,15 +82,11 @@ module _ {O : Type 0} (tells : O → Bool) (held : O → List ℕ) (faults : O �
     more = told.more;
   }
 
-  tells_more : {T : Type 0} (r : Result T Trouble) (h x h1 p1 : List ℕ) → Tells r h [] x h1 p1 → IsFront h h1
-  tells_more (Ok u) h x h1 p1 f = f.more
-  tells_more (Err e) h x h1 p1 f = f.more
-
   -- what a listing leaves
   pub leaves_listed : {T : Type 0} (a b : O) (x : List ℕ) (r : Result T Trouble) → Adds tells held faults a b [] [] x r → Leaves tells held faults a b (ended status.Done r)
-  leaves_listed {T} a b x (Ok u) f = record { later = f.cause.later; same = f.same; fault = λ is. absurd cc; refusal = λ t plain. absurd plain; more = λ t. tells_more {T = T} (Ok u) (held a) x (held b) [] (f.told t) }
-  leaves_listed {T} a b x (Err troubles.Failed) f = record { later = f.cause.later; same = f.same; fault = λ is. f.cause.failed refl; refusal = λ t plain. absurd plain; more = λ t. tells_more {T = T} (Err troubles.Failed) (held a) x (held b) [] (f.told t) }
-  leaves_listed {T} a b x (Err troubles.NoMemory) f = record { later = f.cause.later; same = f.same; fault = λ is. absurd cc; refusal = λ t plain. absurd plain; more = λ t. tells_more {T = T} (Err troubles.NoMemory) (held a) x (held b) [] (f.told t) }
+  leaves_listed {T} a b x (Ok u) f = record { later = f.cause.later; same = f.same; fault = λ is. absurd cc; refusal = λ t plain. absurd plain; more = λ t. tells_more {T = T} (Ok u) (held a) [] x (held b) [] (f.told t) }
+  leaves_listed {T} a b x (Err troubles.Failed) f = record { later = f.cause.later; same = f.same; fault = λ is. f.cause.failed refl; refusal = λ t plain. absurd plain; more = λ t. tells_more {T = T} (Err troubles.Failed) (held a) [] x (held b) [] (f.told t) }
+  leaves_listed {T} a b x (Err troubles.NoMemory) f = record { later = f.cause.later; same = f.same; fault = λ is. absurd cc; refusal = λ t plain. absurd plain; more = λ t. tells_more {T = T} (Err troubles.NoMemory) (held a) [] x (held b) [] (f.told t) }
 
   whole_of : (h x h1 : List ℕ) → IsTold h [] x h1 [] → h1 ≡ h ++ x
   whole_of h x h1 f = sym (append-nil h1) ∙ f.all ∙ ap (λ z. z ++ x) (append-nil h)

@@ -6,6 +6,7 @@ ghost use Rattle.cluster_tool.specs.Text.{summary_front, summary_text, term_fron
 use crate::compare::{Comparison, Outcome};
 use crate::line::{Line, Summary};
 use cl_base::NoMemory;
+use line_text::put;
 use recording_log::{RecEntry, SnapshotAt};
 
 /// The kinds of entries are below this: the highest bit of a kind makes the entry invalid.
@@ -16,13 +17,6 @@ const TERM: u32 = 0;
 
 /// The kind of an entry of a snapshot.
 const SNAPSHOT: u32 = 1;
-
-fn put(page: &mut String, words: &str) -> Result<(), NoMemory>
-    ensures { OnOk result (string_bytes page.new ≡ string_bytes page.old ++ words.now) }
-{
-    page.push_str(words)?;
-    Ok(())
-}
 
 fn put_summary_front(page: &mut String, summary: Summary) -> Result<(), NoMemory>
     ensures { OnOk result (string_bytes page.new ≡ string_bytes page.old ++ summary_front summary) }

@@ -5,7 +5,7 @@ ghost use Rattle.line_text.specs.Pieces.{count};
 ghost use Rattle.cluster_tool.specs.Told.{Told, NoWriteFault};
 
 use cl_base::{MemberFault, NoMemory, Sink, Trouble};
-use line_text::give;
+use line_text::{give, put, put_count};
 use std::alloc::Global;
 
 /// How a call of the tool ends. Disks are counted from 0, in the order of the folders among the words.
@@ -26,22 +26,6 @@ pub enum ToolStatus {
     WriteFault,
     /// No memory was there. The sink holds a part of the text's front.
     NoMemory,
-}
-
-fn put(page: &mut String, words: &str) -> Result<(), NoMemory>
-    ensures { OnOk result (string_bytes page.new ≡ string_bytes page.old ++ words.now) }
-{
-    page.push_str(words)?;
-    Ok(())
-}
-
-/// Words, and a number behind them.
-fn put_count(page: &mut String, words: &str, n: u64) -> Result<(), NoMemory>
-    ensures { OnOk result (string_bytes page.new ≡ string_bytes page.old ++ count words.now n) }
-{
-    page.push_str(words)?;
-    write!(page, "{n}")?;
-    Ok(())
 }
 
 fn put_disk(page: &mut String, disk: u64, words: &str) -> Result<(), NoMemory>

@@ -5,9 +5,10 @@ mod disks;
 mod tool;
 
 use cl_base::{ReadSource, Sink, Source, WriteSink};
-use cluster_run::{Status, cluster_main};
+use cluster_run::cluster_main;
 use disks::{Unhad, folder_disks, folder_of, memory_disks};
 use plan::WordsFault;
+use run_start::Status;
 use std::alloc::Global;
 use std::env;
 use std::fs::Files;

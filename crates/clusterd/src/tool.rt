@@ -1,8 +1,8 @@
 // The tool's words: a look into the folders of members.
 use cl_base::{Sink, Trouble};
 use cl_filedisk::FileDisk;
-use cluster_run::Status;
 use cluster_tool::{Asked, asked_by, takes_disks, tool_main};
+use run_start::Status;
 use std::alloc::Global;
 use std::fs::Files;
 

@@ -17,8 +17,8 @@ use Rattle.election.specs.declared.member.Election.{Election}
 use Rattle.election.specs.Rows.{Turn, begins, stays, later, heard_count, heard_better, vote_count, enter_canvass, returns_to_canvass, duty, canvass_ends, in_canvass, in_follower_ballot, in_candidate_ballot, nominates}
 use Rattle.election.specs.declared.event.Decision.TheVariants as D
 use Rattle.sbe_events.specs.declared.event.Event.{Event}
-use Rattle.sbe_events.specs.Spelling.{HasSpelling, IsNumber}
-use Rattle.echo_run.specs.Module.{term_of, event_len, place_from, place_of, module_of, module_after, empty}
+use Rattle.sbe_events.specs.Spelling.{HasSpelling, IsNumber, term_of}
+use Rattle.echo_run.specs.Module.{event_len, place_from, place_of, module_of, module_after, empty}
 use Rattle.echo_run.specs.LeaderRows.{Member, name_of, new_term, appends, begins_reign, commit_after, entries_from, entries_to, quorum_position, reports_of, heard_count as leader_heard, duty_in}
 use Rattle.echo_run.specs.World.{World, with_member, committed_world, longer, turn, phase, round, rounds, sent_from}
 use Rattle.echo_run.specs.Driver.{IsAlone, IsTermed, IsKept, IsWritable, member_in, world_of}
@@ -26,7 +26,7 @@ use Rattle.echo_run.specs.declared.module.Module.{Module}
 use Rattle.echo_run.specs.declared.run.Run.{Run}
 use Rattle.echo_run.specs.declared.sent.Sent.{Sent}
 use Rattle.service_api.specs.declared.echo.Echo.{Echo}
-use Rattle.echo_run.proofs.Parts.{take-add}
+use Rattle.line_text.proofs.Parts.{take-add}
 use Rattle.std.proofs.lemmas.List.Sums.{fold-append}
 use Rattle.echo_run.proofs.HeadlineEntries.{push_fold}
 use Rattle.echo_run.proofs.Writing.{entries_writable}

@@ -1,14 +1,15 @@
 -- Orders that fit, one after the other.
-use Rattle.std.proofs.Common.{◌≡◌, ℕ, suc, ◌+◌, ◌<◌, ◌≤◌, Bool, true, false, if◌then◌else◌, List, [], ◌∷◌, length, get_or, drop, All, Option, Some, None, refl, sym, ◌∙◌, ap, arith}
+use Rattle.std.proofs.Common.{◌≡◌, ℕ, suc, ◌+◌, ◌<◌, ◌≤◌, true, false, List, [], ◌∷◌, length, get_or, drop, All, sym, ◌∙◌, ap, arith}
+use Rattle.std.specs.Prelude.{◌&&◌}
 use Rattle.std.proofs.Math.Seq.{drop-cons}
+use Rattle.std.proofs.lemmas.Bool.{and_parts}
 use Rattle.std.proofs.lemmas.Bool.Decides.{nat_tests}
 use Rattle.std.proofs.lemmas.List.{drop_all}
 use Rattle.std.proofs.lemmas.List.Elements.{All-nil, All-cons}
-use Rattle.scenario.specs.declared.fault.Cause.TheVariants.{NotBuilt}
 use Rattle.scenario.specs.declared.order.Order.{Order}
 use Rattle.scenario.specs.declared.order.Order.TheVariants as order
 use Rattle.echo_run.specs.Driver.{IsNamed, rounds_of}
-use Rattle.echo_run.specs.Form.{fits, next_stage, rounds_in, line_of, unbuilt_from, are_rounds, is_one_member, is_echo_service, is_first_connect, is_message}
+use Rattle.echo_run.specs.Form.{fits, next_stage, rounds_in, all_fit, is_of_form, are_rounds, is_one_member, is_echo_service, is_first_connect, is_message}
 use Rattle.echo_run.specs.declared.form.Stage.{Stage}
 use Rattle.echo_run.specs.declared.form.Stage.TheVariants as stage
 
@@ -44,18 +45,18 @@ fits_few stage.Answering before o few e = few_rounds 0 before o e
 fits_few stage.End before o few e = absurd (cc)
 
 -- the next order is looked at
-at_next : (at : Stage) (before : ℕ) (orders : List Order) (k : ℕ) (o : Order) → k < length orders → o ≡ get_or orders k o → unbuilt_from at before (drop k orders) ≡ unbuilt_from at before (o ∷ drop (suc k) orders)
-at_next at before orders k o within is = ap (unbuilt_from at before) (drop-cons orders k o within ∙ ap (λ x. x ∷ drop (suc k) orders) (sym is))
+at_next : (at : Stage) (before : ℕ) (orders : List Order) (k : ℕ) (o : Order) → k < length orders → o ≡ get_or orders k o → all_fit at before (drop k orders) ≡ all_fit at before (o ∷ drop (suc k) orders)
+at_next at before orders k o within is = ap (all_fit at before) (drop-cons orders k o within ∙ ap (λ x. x ∷ drop (suc k) orders) (sym is))
 
-pub goes_on : (at : Stage) (before : ℕ) (orders : List Order) (k : ℕ) (o : Order) → k < length orders → o ≡ get_or orders k o → fits at before o ≡ true → unbuilt_from at before (drop k orders) ≡ unbuilt_from (next_stage at) (before + rounds_in o) (drop (suc k) orders)
-goes_on at before orders k o within is fit = at_next at before orders k o within is ∙ ap (λ (b : Bool). if b then unbuilt_from (next_stage at) (before + rounds_in o) (drop (suc k) orders) else Some (record { line = line_of o; cause = NotBuilt })) fit
+pub goes_on : (at : Stage) (before : ℕ) (orders : List Order) (k : ℕ) (o : Order) → k < length orders → o ≡ get_or orders k o → fits at before o ≡ true → all_fit at before (drop k orders) ≡ all_fit (next_stage at) (before + rounds_in o) (drop (suc k) orders)
+goes_on at before orders k o within is fit = at_next at before orders k o within is ∙ ap (λ b. b && all_fit (next_stage at) (before + rounds_in o) (drop (suc k) orders)) fit
 
-pub ends_at : (at : Stage) (before : ℕ) (orders : List Order) (k : ℕ) (o : Order) → k < length orders → o ≡ get_or orders k o → fits at before o ≡ false → unbuilt_from at before (drop k orders) ≡ Some (record { line = line_of o; cause = NotBuilt })
-ends_at at before orders k o within is fit = at_next at before orders k o within is ∙ ap (λ (b : Bool). if b then unbuilt_from (next_stage at) (before + rounds_in o) (drop (suc k) orders) else Some (record { line = line_of o; cause = NotBuilt })) fit
+pub ends_at : (at : Stage) (before : ℕ) (orders : List Order) (k : ℕ) (o : Order) → k < length orders → o ≡ get_or orders k o → fits at before o ≡ false → all_fit at before (drop k orders) ≡ false
+ends_at at before orders k o within is fit = at_next at before orders k o within is ∙ ap (λ b. b && all_fit (next_stage at) (before + rounds_in o) (drop (suc k) orders)) fit
 
 -- nothing is left to look at
-pub none_left : (at : Stage) (before : ℕ) (orders : List Order) (k : ℕ) → length orders ≤ k → unbuilt_from at before (drop k orders) ≡ None
-none_left at before orders k past = ap (unbuilt_from at before) (drop_all k orders past)
+pub none_left : (at : Stage) (before : ℕ) (orders : List Order) (k : ℕ) → length orders ≤ k → all_fit at before (drop k orders) ≡ true
+none_left at before orders k past = ap (all_fit at before) (drop_all k orders past)
 
 -- how many orders may still come
 abbrev pub left_at : Stage → ℕ
@@ -110,24 +111,19 @@ fits_named stage.Sending before o e = named_message o e
 fits_named stage.Answering before o e = named_rounds 0 before o e
 fits_named stage.End before o e = absurd (cc)
 
--- orders of which none is refused: their clients are named, and their rounds and they themselves are few
+-- orders of the form: their clients are named, and their rounds and they themselves are few
 pub record IsRunnable (before left : ℕ) (orders : List Order) : Type 0 where
   pub named : All IsNamed orders
   pub rounds : before + rounds_of orders ≤ 900
   pub few : length orders ≤ left
 
-fit_of : {T : Type 0} (b : Bool) (rest : Option T) (r : T) → (if b then rest else Some r) ≡ None → b ≡ true
-fit_of true rest r e = refl
-fit_of false rest r e = absurd (cc)
+pub runnable_from : (at : Stage) (before : ℕ) (orders : List Order) → before ≤ 900 → all_fit at before orders ≡ true → IsRunnable before (left_at at) orders
+runnable_from at before [] few all = record { named = All-nil IsNamed; rounds = omega arith; few = omega arith }
+runnable_from at before (o ∷ orders) few all =
+    let parts = and_parts (fits at before o) (all_fit (next_stage at) (before + rounds_in o) orders) all in
+    let so_far = runnable_from (next_stage at) (before + rounds_in o) orders (fits_few at before o few parts.0) parts.1 in
+    let less = one_less at before o parts.0 in
+    record { named = All-cons IsNamed o orders (fits_named at before o parts.0) so_far.named; rounds = omega (arith, so_far.rounds); few = omega (arith, so_far.few, less) }
 
-pub runnable_from : (at : Stage) (before : ℕ) (orders : List Order) → before ≤ 900 → unbuilt_from at before orders ≡ None → IsRunnable before (left_at at) orders
-runnable_from at before [] few none = record { named = All-nil IsNamed; rounds = omega arith; few = omega arith }
-runnable_from at before (o ∷ orders) few none =
-    let fit : fits at before o ≡ true = fit_of (fits at before o) (unbuilt_from (next_stage at) (before + rounds_in o) orders) (record { line = line_of o; cause = NotBuilt }) none in
-    let rest : unbuilt_from (next_stage at) (before + rounds_in o) orders ≡ None = sym (ap (λ (b : Bool). if b then unbuilt_from (next_stage at) (before + rounds_in o) orders else Some (record { line = line_of o; cause = NotBuilt })) fit) ∙ none in
-    let so_far = runnable_from (next_stage at) (before + rounds_in o) orders (fits_few at before o few fit) rest in
-    let less = one_less at before o fit in
-    record { named = All-cons IsNamed o orders (fits_named at before o fit) so_far.named; rounds = omega (arith, so_far.rounds); few = omega (arith, so_far.few, less) }
-
-pub runnable : (orders : List Order) → unbuilt_from stage.Members 0 orders ≡ None → IsRunnable 0 7 orders
-runnable orders none = runnable_from stage.Members 0 orders (omega arith) none
+pub runnable : (orders : List Order) → is_of_form orders ≡ true → IsRunnable 0 7 orders
+runnable orders all = runnable_from stage.Members 0 orders (omega arith) all

@@ -2,7 +2,7 @@
 use Rattle.std.proofs.Common.{◌≡◌, ℕ, zero, suc, ◌+◌, ◌-◌, ◌≤◌, max, Bool, true, false, if◌then◌else◌, nat_le, nat_lt, List, [], ◌∷◌, ◌++◌, map, length, take, drop, fold, None, refl, sym, ◌∙◌, ap, ⊎_elim, arith, append-nil, length-take-le, length-append}
 use Rattle.std.proofs.lemmas.List.{take-take, take-append-le}
 use Rattle.std.proofs.lemmas.Bool.{le-leb, cases_lt}
-use Rattle.echo_run.proofs.Parts.{take-add}
+use Rattle.line_text.proofs.Parts.{take-add}
 use Rattle.scenario.specs.declared.order.Order.{Order}
 use Rattle.scenario.specs.declared.order.Order.TheVariants as order
 use Rattle.election.specs.declared.member.State.{State}

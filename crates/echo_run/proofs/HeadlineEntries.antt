@@ -11,11 +11,12 @@ use Rattle.sbe_events.specs.declared.event.Event.{Event}
 use Rattle.sbe_events.specs.declared.event.Event.TheVariants as event
 use Rattle.sbe_client.specs.declared.egress.Egress.TheVariants as egress
 use Rattle.echo_run.specs.Headline.{entry_of, IsOwed, IsOther, IsSentByLeader}
-use Rattle.echo_run.specs.Module.{term_of, empty, module_of, module_after, session_of}
+use Rattle.sbe_events.specs.Spelling.{term_of}
+use Rattle.echo_run.specs.Module.{empty, module_of, module_after, session_of}
 use Rattle.echo_run.specs.Owed.{new_leader_to, closed_to, owed_by_module, given_to, owed_by_echo, owed}
 use Rattle.echo_run.specs.World.{World, leads_in, sent_at, sent_from}
-use Rattle.echo_run.specs.declared.report.Origin.{Origin}
-use Rattle.echo_run.specs.declared.report.Origin.TheVariants as origin
+use Rattle.echo_run.specs.declared.sent.Origin.{Origin}
+use Rattle.echo_run.specs.declared.sent.Origin.TheVariants as origin
 use Rattle.echo_run.specs.declared.module.Session.{Session}
 use Rattle.echo_run.specs.declared.module.Module.{Module}
 use Rattle.echo_run.specs.declared.sent.Sent.{Sent}

@@ -16,7 +16,8 @@ use Rattle.sbe_events.specs.declared.event.Event.{Event}
 use Rattle.echo_run.specs.declared.sent.Outcome.{Outcome}
 use Rattle.echo_run.specs.declared.sent.Outcome.TheVariants as outcome
 use Rattle.echo_run.specs.Headline.{Reign, no_reign, reign_after, IsLedBy}
-use Rattle.echo_run.specs.Module.{term_of, place_of}
+use Rattle.sbe_events.specs.Spelling.{term_of}
+use Rattle.echo_run.specs.Module.{place_of}
 use Rattle.echo_run.specs.LeaderRows.{Member, begins_reign, leads, duty_in, name_of, new_term, commit_after, heard_count as leader_heard}
 use Rattle.echo_run.specs.World.{is_ready, taken}
 use Rattle.echo_run.proofs.HeadlineEntries.{push_fold}

@@ -17,7 +17,8 @@ use Rattle.echo_run.specs.declared.sent.Outcome.{Outcome}
 use Rattle.echo_run.specs.declared.sent.Outcome.TheVariants as outcome
 use Rattle.echo_run.specs.declared.sent.Sent.{Sent}
 use Rattle.echo_run.specs.declared.clients.Known.{Known}
-use Rattle.echo_run.specs.Module.{term_of, module_of}
+use Rattle.sbe_events.specs.Spelling.{term_of}
+use Rattle.echo_run.specs.Module.{module_of}
 use Rattle.echo_run.specs.Headline.{entry_of, IsOwed, IsSentByLeader, phase_sends, phases_in, phases_at, phases_from, phases_of, IsLedBy, no_reign, Headline}
 use Rattle.echo_run.specs.World.{World, first_world, turn, phase, round, rounds, connects_to, sends, answers, direct, connect_outcome, message_outcome, known_by, step, world_after, is_ready}
 use Rattle.echo_run.proofs.Fronts.{IsSound, turn_sound, phase_sound, step_sound, consumes_front}

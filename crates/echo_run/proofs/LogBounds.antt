@@ -9,21 +9,13 @@ use Rattle.sbe_events.specs.Spelling.{IsClient, HasSpelling}
 use Rattle.sbe_events.specs.declared.event.Event.{Event}
 use Rattle.sbe_events.specs.declared.event.Event.TheVariants as event
 use Rattle.echo_run.specs.Module.{event_len, place_from, empty, is_session, module_after, module_of, session_of}
+use Rattle.echo_run.proofs.Lengths.{len_least}
 use Rattle.echo_run.specs.declared.module.Session.{Session}
 use Rattle.echo_run.specs.declared.module.Module.{Module}
 
 -- an event's frames take at least one frame's head
 frames_least : (n : ℕ) → 1 ≤ n → 32 ≤ frames_len n
 frames_least n some = grind (arith, nat_tests)
-
-len_least : (e : Event) → 32 ≤ event_len e
-len_least (event.Term term position stamp base leader) = omega arith
-len_least (event.Opened term corr session stamp stream channel) = omega arith
-len_least (event.Message term session stamp payload) = omega arith
-len_least (event.ServiceMessage term service number stamp payload) = omega arith
-len_least (event.Timer term corr stamp) = omega arith
-len_least (event.Closed term session stamp reason) = omega arith
-len_least (event.Snapshot term position stamp) = omega arith
 
 end_by : (p room frames : ℕ) → 32 ≤ frames → p + 32 ≤ (if nat_le frames room then p + frames else p + room + frames)
 end_by p room frames least = elim (nat_le frames room) as (λ b. p + 32 ≤ (if b then p + frames else p + room + frames)) [ true ↦ omega arith | false ↦ omega arith ]

@@ -11,8 +11,8 @@ use Rattle.echo_run.specs.Owed.{new_leader_to, owed_outputs, given_to}
 use Rattle.echo_run.specs.World.{sent_at, sent_from}
 use Rattle.echo_run.specs.declared.module.Module.{Module}
 use Rattle.echo_run.specs.declared.module.Session.{Session}
-use Rattle.echo_run.specs.declared.report.Origin.{Origin}
-use Rattle.echo_run.specs.declared.report.Origin.TheVariants as origin
+use Rattle.echo_run.specs.declared.sent.Origin.{Origin}
+use Rattle.echo_run.specs.declared.sent.Origin.TheVariants as origin
 use Rattle.echo_run.specs.declared.sent.Sent.{Sent}
 
 -- one piece is put behind what is there, and the rest is still to come

@@ -10,13 +10,14 @@ use Rattle.service_api.specs.declared.output.Output.{Output}
 use Rattle.service_api.specs.declared.output.Output.TheVariants as output
 use Rattle.service_api.specs.Echo.{echoed}
 use Rattle.echo_run.specs.Driver.{IsWritable}
-use Rattle.echo_run.specs.Module.{term_of, stamp_of, module_after, session_of}
+use Rattle.sbe_events.specs.Spelling.{term_of, stamp_of}
+use Rattle.echo_run.specs.Module.{module_after, session_of}
 use Rattle.echo_run.specs.Owed.{new_leader_to, closed_to, owed_by_module, given_to, owed_outputs, owed_by_echo, owed}
 use Rattle.echo_run.specs.World.{sent_at, sent_from, leads_in, answers}
 use Rattle.echo_run.specs.declared.module.Module.{Module}
 use Rattle.echo_run.specs.declared.module.Session.{Session}
-use Rattle.echo_run.specs.declared.report.Origin.{Origin}
-use Rattle.echo_run.specs.declared.report.Origin.TheVariants as origin
+use Rattle.echo_run.specs.declared.sent.Origin.{Origin}
+use Rattle.echo_run.specs.declared.sent.Origin.TheVariants as origin
 use Rattle.echo_run.specs.declared.sent.Outcome.{Outcome}
 use Rattle.echo_run.specs.declared.sent.Outcome.TheVariants as outcome
 use Rattle.echo_run.specs.declared.sent.Sent.{Sent}

@@ -1,9 +1,6 @@
--- Which scenarios are run: one member with the echo service, and then a prefix of a first canvass with at least 35 rounds,
+-- The one form of scenario: one member with the echo service, and then a prefix of a first canvass with at least 35 rounds,
 -- one connect, rounds, one message and rounds, in all at most 900 rounds.
-use Rattle.std.specs.Prelude.{ℕ, ◌+◌, ◌==◌, Bool, true, false, ◌&&◌, nat_le, List, [], ◌∷◌, length, if◌then◌else◌, Option, Some, None}
-use Rattle.scenario.specs.declared.fault.Cause.TheVariants.{NotBuilt}
-use Rattle.scenario.specs.declared.fault.Reading.{Reading}
-use Rattle.scenario.specs.declared.fault.Refusal.{Refusal}
+use Rattle.std.specs.Prelude.{ℕ, ◌+◌, ◌==◌, Bool, true, false, ◌&&◌, nat_le, List, [], ◌∷◌, length}
 use Rattle.scenario.specs.declared.order.Named.{Named}
 use Rattle.scenario.specs.declared.order.Named.TheVariants as named
 use Rattle.scenario.specs.declared.order.Order.{Order}
@@ -67,49 +64,11 @@ abbrev pub rounds_in : Order → ℕ
 rounds_in (order.Rounds line rounds) = rounds
 rounds_in _ = 0
 
-abbrev pub line_of : Order → ℕ
-line_of (order.Members line members) = line
-line_of (order.Service line name) = line
-line_of (order.Rounds line rounds) = line
-line_of (order.Quiet line rounds) = line
-line_of (order.Connect line client member) = line
-line_of (order.Send line client member text) = line
-line_of (order.SendHex line client member payload) = line
-line_of (order.Close line client member) = line
-line_of (order.KeepAlive line client member) = line
-line_of (order.Raw line client member bytes) = line
-line_of (order.Action line member) = line
-line_of (order.Stop line member) = line
-line_of (order.Start line member) = line
-line_of (order.Invalidate line member) = line
-line_of (order.Fuse line member calls choice) = line
-line_of (order.Cut line a b) = line
-line_of (order.Heal line a b) = line
-line_of (order.Lose line a b) = line
-line_of (order.Replay line a b latest) = line
-line_of (order.FreeOn line) = line
-line_of (order.FreeOff line) = line
-line_of (order.Join line client) = line
-line_of (order.Offer line client text) = line
-line_of (order.Backup line member) = line
-line_of (order.BackupOff line) = line
-line_of (order.BackupLose line) = line
+-- orders fit one after the other, from a stage on, behind so many rounds
+abbrev pub all_fit : Stage → ℕ → List Order → Bool
+all_fit at before [] = true
+all_fit at before (o ∷ orders) = fits at before o && all_fit (next_stage at) (before + rounds_in o) orders
 
--- the first order that isn't run yet, from a stage on, behind so many rounds
-abbrev pub unbuilt_from : Stage → ℕ → List Order → Option Refusal
-unbuilt_from at before [] = None
-unbuilt_from at before (o ∷ orders) =
-    if fits at before o then unbuilt_from (next_stage at) (before + rounds_in o) orders
-    else Some (record { line = line_of o; cause = NotBuilt })
-
-abbrev pub unbuilt : List Order → Option Refusal
-unbuilt orders = unbuilt_from stage.Members 0 orders
-
--- The first line that is refused: an order that isn't run yet comes before the first faulty line, since the orders that
--- are read are those before it.
-abbrev pub or_else : Option Refusal → Option Refusal → Option Refusal
-or_else (Some r) fault = Some r
-or_else None fault = fault
-
-abbrev pub refusal_of : Reading → Option Refusal
-refusal_of reading = or_else (unbuilt reading.orders) reading.fault
+-- the scenario is of the form
+abbrev pub is_of_form : List Order → Bool
+is_of_form orders = all_fit stage.Members 0 orders

@@ -5,11 +5,12 @@ use Rattle.scenario.specs.declared.order.Order.{Order}
 use Rattle.scenario.specs.declared.order.Order.TheVariants as order
 use Rattle.sbe_events.specs.declared.event.Event.{Event}
 use Rattle.sbe_events.specs.declared.event.Event.TheVariants as event
-use Rattle.echo_run.specs.Module.{term_of, module_of}
+use Rattle.sbe_events.specs.Spelling.{term_of}
+use Rattle.echo_run.specs.Module.{module_of}
 use Rattle.echo_run.specs.Owed.{owed}
 use Rattle.echo_run.specs.World.{World, first_world, turn, round, step, sent_from, world_after}
-use Rattle.echo_run.specs.declared.report.Origin.{Origin}
-use Rattle.echo_run.specs.declared.report.Origin.TheVariants as origin
+use Rattle.echo_run.specs.declared.sent.Origin.{Origin}
+use Rattle.echo_run.specs.declared.sent.Origin.TheVariants as origin
 use Rattle.echo_run.specs.declared.sent.Sent.{Sent}
 
 -- the entry that owes a record; none owes the answer to a refused connect

@@ -1,15 +1,10 @@
-pub mod Answer
 pub mod Driver
 pub mod Form
 pub mod Headline
 pub mod LeaderRows
 pub mod Module
 pub mod Owed
-pub mod Pieces
 pub mod Reported
-pub mod Status
-pub mod Streams
 pub mod Text
-pub mod Top
 pub mod Worked
 pub mod World

@@ -1,39 +1,15 @@
 -- What the log means to the module: the open sessions, the next session's number and the leader.
 use Rattle.std.specs.Prelude.{ℕ, ◌+◌, ℤ, pos, negsuc, ◌+ℤ◌, Bool, not, List, [], ◌∷◌, ◌++◌, filter, find, fold, length, Option}
 use Rattle.entry_log.specs.Log.{same_term, end_after}
+use Rattle.sbe_events.specs.Spelling.{spelling_of, term_of}
 use Rattle.sbe_events.specs.declared.event.Event.{Event}
 use Rattle.sbe_events.specs.declared.event.Event.TheVariants as event
 use Rattle.echo_run.specs.declared.module.Session.{Session}
 use Rattle.echo_run.specs.declared.module.Module.{Module}
 
--- the leadership term of an event
-abbrev pub term_of : Event → ℤ
-term_of (event.Term term position stamp base leader) = term
-term_of (event.Opened term corr session stamp stream channel) = term
-term_of (event.Message term session stamp payload) = term
-term_of (event.ServiceMessage term service number stamp payload) = term
-term_of (event.Timer term corr stamp) = term
-term_of (event.Closed term session stamp reason) = term
-term_of (event.Snapshot term position stamp) = term
-
-abbrev pub stamp_of : Event → ℤ
-stamp_of (event.Term term position stamp base leader) = stamp
-stamp_of (event.Opened term corr session stamp stream channel) = stamp
-stamp_of (event.Message term session stamp payload) = stamp
-stamp_of (event.ServiceMessage term service number stamp payload) = stamp
-stamp_of (event.Timer term corr stamp) = stamp
-stamp_of (event.Closed term session stamp reason) = stamp
-stamp_of (event.Snapshot term position stamp) = stamp
-
--- the bytes of an event: a header of 8, its block, and what follows that
-abbrev pub event_len : Event → ℕ
-event_len (event.Term term position stamp base leader) = 48
-event_len (event.Opened term corr session stamp stream channel) = 48 + length channel
-event_len (event.Message term session stamp payload) = 32 + length payload
-event_len (event.ServiceMessage term service number stamp payload) = 32 + length payload
-event_len (event.Timer term corr stamp) = 32
-event_len (event.Closed term session stamp reason) = 36
-event_len (event.Snapshot term position stamp) = 36
+-- the bytes of an event in the log
+unfoldable pub event_len : Event → ℕ
+event_len e = length (spelling_of e)
 
 -- where events end that are written from place p
 abbrev pub place_from : ℕ → List Event → ℕ

@@ -6,9 +6,10 @@ use Rattle.sbe_client.specs.declared.egress.Egress.TheVariants as egress
 use Rattle.service_api.specs.declared.output.Output.{Output}
 use Rattle.service_api.specs.declared.output.Output.TheVariants as output
 use Rattle.service_api.specs.Echo.{echoed}
-use Rattle.echo_run.specs.Module.{term_of, stamp_of, module_after, session_of}
-use Rattle.echo_run.specs.declared.report.Origin.{Origin}
-use Rattle.echo_run.specs.declared.report.Origin.TheVariants as origin
+use Rattle.sbe_events.specs.Spelling.{term_of, stamp_of}
+use Rattle.echo_run.specs.Module.{module_after, session_of}
+use Rattle.echo_run.specs.declared.sent.Origin.{Origin}
+use Rattle.echo_run.specs.declared.sent.Origin.TheVariants as origin
 use Rattle.echo_run.specs.declared.module.Session.{Session}
 use Rattle.echo_run.specs.declared.module.Module.{Module}
 use Rattle.echo_run.specs.declared.sent.Sent.{Sent}

@@ -3,7 +3,7 @@ use Rattle.std.specs.Prelude.{ℕ, List, [], ◌∷◌, ◌++◌, codes}
 use Rattle.scenario.specs.declared.order.Named.TheVariants.{Echo}
 use Rattle.scenario.specs.declared.order.Order.{Order}
 use Rattle.scenario.specs.declared.order.Order.TheVariants as order
-use Rattle.echo_run.specs.Pieces.{newline}
+use Rattle.line_text.specs.Pieces.{newline}
 
 -- the orders of lines 1 to 7
 abbrev pub worked_orders : List Order

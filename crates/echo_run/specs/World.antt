@@ -12,9 +12,10 @@ use Rattle.sbe_events.specs.declared.event.Event.TheVariants as event
 use Rattle.sbe_client.specs.declared.egress.Egress.{Egress}
 use Rattle.sbe_client.specs.declared.egress.Egress.TheVariants as egress
 use Rattle.echo_run.specs.LeaderRows.{Member, duty_of, appends}
-use Rattle.echo_run.specs.Module.{term_of, place_of, module_of, module_after, session_of}
+use Rattle.sbe_events.specs.Spelling.{term_of}
+use Rattle.echo_run.specs.Module.{place_of, module_of, module_after, session_of}
 use Rattle.echo_run.specs.Owed.{owed}
-use Rattle.echo_run.specs.declared.report.Origin.TheVariants as origin
+use Rattle.echo_run.specs.declared.sent.Origin.TheVariants as origin
 use Rattle.echo_run.specs.declared.module.Module.{Module}
 use Rattle.echo_run.specs.declared.clients.Known.{Known}
 use Rattle.echo_run.specs.declared.sent.Sent.{Sent}

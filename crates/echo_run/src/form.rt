@@ -1,9 +1,9 @@
-// Which scenarios are run.
+// Which scenarios are of the form that is run here.
 ghost use Rattle.std.specs.Prelude.{◌≡◌, ◌≤◌, ◌+◌};
-ghost use Rattle.echo_run.specs.Form.{next_stage, is_echo, is_few, fits, rounds_in, line_of, is_one_member, is_echo_service, are_rounds, is_first_connect, is_message, unbuilt_from, unbuilt, refusal_of};
+ghost use Rattle.echo_run.specs.Form.{next_stage, is_echo, is_few, fits, rounds_in, is_one_member, is_echo_service, are_rounds, is_first_connect, is_message, is_of_form};
 
 use cl_base::limits::PAYLOAD_LIMIT;
-use scenario::{Cause, Named, Order, Reading, Refusal};
+use scenario::{Named, Order};
 
 /// The most rounds of a scenario that is run: no session is silent for too long in them.
 const MOST_ROUNDS: u64 = 900;
@@ -131,63 +131,18 @@ fn rounds_in(order: &Order) -> u64
     }
 }
 
-fn line_of(order: &Order) -> u64
-    ensures { result ≡ line_of order.now }
-{
-    match order {
-        Order::Members { line, .. }
-        | Order::Service { line, .. }
-        | Order::Rounds { line, .. }
-        | Order::Quiet { line, .. }
-        | Order::Connect { line, .. }
-        | Order::Send { line, .. }
-        | Order::SendHex { line, .. }
-        | Order::Close { line, .. }
-        | Order::KeepAlive { line, .. }
-        | Order::Raw { line, .. }
-        | Order::Action { line, .. }
-        | Order::Stop { line, .. }
-        | Order::Start { line, .. }
-        | Order::Invalidate { line, .. }
-        | Order::Fuse { line, .. }
-        | Order::Cut { line, .. }
-        | Order::Heal { line, .. }
-        | Order::Lose { line, .. }
-        | Order::Replay { line, .. }
-        | Order::FreeOn { line }
-        | Order::FreeOff { line }
-        | Order::Join { line, .. }
-        | Order::Offer { line, .. }
-        | Order::Backup { line, .. }
-        | Order::BackupOff { line }
-        | Order::BackupLose { line } => *line,
-    }
-}
-
-pub(crate) fn unbuilt(orders: &[Order]) -> Option<Refusal>
-    ensures { result ≡ unbuilt orders.now }
+/// Whether orders are of the form.
+pub(crate) fn is_of_form(orders: &[Order]) -> bool
+    ensures { result ≡ is_of_form orders.now }
 {
     let mut stage = Stage::Members;
     let mut before = 0;
     for order in orders {
         if !fits(stage, before, order) {
-            return Some(Refusal {
-                line: line_of(order),
-                cause: Cause::NotBuilt,
-            });
+            return false;
         }
         stage = stage.next();
         before += rounds_in(order);
     }
-    None
-}
-
-/// The first line that is refused: an order that isn't run yet, or else the first faulty line.
-pub(crate) fn refusal_of(reading: &Reading) -> Option<Refusal>
-    ensures { result ≡ refusal_of reading.now }
-{
-    match unbuilt(reading.orders.as_slice()) {
-        Some(refusal) => Some(refusal),
-        None => reading.fault,
-    }
+    true
 }

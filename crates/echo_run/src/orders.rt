@@ -2,7 +2,8 @@
 use crate::clients::{known_by, put_answer};
 use crate::owing::is_ready;
 use crate::places::end_behind;
-use crate::{OrderLine, Outcome, Run};
+use crate::run::Run;
+use crate::{OrderLine, Outcome};
 use cl_base::limits::{LOG_LIMIT, PAYLOAD_LIMIT, SESSIONS_LIMIT, WINDOW_LIMIT};
 use cl_base::{Bytes, NoMemory};
 use sbe_events::Event;

@@ -1,7 +1,7 @@
 // What entries owe to clients is put behind what was sent.
 ghost use Rattle.std.specs.Prelude.{◌≡◌, ◌++◌, ◌∷◌, [], ◌+◌, ◌<◌, ◌^◌, pos, ◌+ℤ◌, ◌<ℤ◌, ◌≤ℤ◌, OnOk, IfOk, All, fold, length};
-ghost use Rattle.sbe_events.specs.Spelling.{HasSpelling};
-ghost use Rattle.echo_run.specs.Module.{term_of, stamp_of, module_after};
+ghost use Rattle.sbe_events.specs.Spelling.{HasSpelling, term_of, stamp_of};
+ghost use Rattle.echo_run.specs.Module.{module_after};
 ghost use Rattle.echo_run.specs.World.{is_ready, leads_in, sent_at, sent_from};
 ghost use Rattle.echo_run.specs.Owed.{new_leader_to, closed_to, owed_by_module, given_to, owed_outputs, owed_by_echo, owed};
 

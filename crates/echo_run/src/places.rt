@@ -1,9 +1,8 @@
 // The length of an event, and the term of it.
 ghost use Rattle.std.specs.Prelude.{◌≡◌, ◌+◌, ◌≤◌, ◌^◌, length};
 ghost use Rattle.entry_log.specs.Log.{end_after};
-ghost use Rattle.sbe_events.specs.Spelling.{HasSpelling, spelling_of};
-ghost use Rattle.sbe_events.specs.declared.event.Event.{Event};
-ghost use Rattle.echo_run.specs.Module.{term_of, event_len};
+ghost use Rattle.sbe_events.specs.Spelling.{HasSpelling, term_of};
+ghost use Rattle.echo_run.specs.Module.{event_len};
 
 use entry_log::end_after;
 use sbe_events::Event;
@@ -23,6 +22,7 @@ pub(crate) fn term_of(event: &Event) -> i64
 }
 
 /// The bytes of an event.
+#[tactic(auto, using(crate::proofs::Lengths::len_counted))]
 fn event_len(event: &Event) -> u64
     requires { event_len event.now ≤ 32768 }
     ensures { result ≡ event_len event.now }
@@ -46,8 +46,3 @@ pub(crate) fn end_behind(place: u64, event: &Event) -> u64
 {
     end_after(place, event_len(event))
 }
-
-/// An event is as long in the log as its spelling.
-pub fn measures_spellings()
-    ensures { (e : Event) → event_len e ≡ length (spelling_of e) }
-{}

@@ -1,6 +1,6 @@
 // One member with the echo service, over a log in memory.
 ghost use Rattle.std.specs.Prelude.{◌≡◌, ◌≤◌, ◌+◌, ◌^◌, nat_le, if◌then◌else◌};
-ghost use Rattle.echo_run.specs.Module.{term_of};
+ghost use Rattle.sbe_events.specs.Spelling.{term_of};
 
 use crate::owing::take_entries;
 use crate::places::{end_behind, term_of};
@@ -15,7 +15,7 @@ use std::alloc::Global;
 
 /// One member and its clients while orders are run.
 #[derive(Drop)]
-pub struct Run {
+pub(crate) struct Run {
     pub(crate) alloc: Global,
     /// In ms.
     pub(crate) clock: u64,

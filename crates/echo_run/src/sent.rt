@@ -1,6 +1,23 @@
 // What a run says while it goes on: records to clients, and what became of orders.
-use crate::Origin;
 use sbe_client::Egress;
+
+/// What owes a record that was sent to a client.
+#[derive(Clone, Copy, Debug, PartialEq, Eq)]
+pub enum Origin {
+    /// The module, at this entry. The number counts what it owes there, from 0.
+    Module {
+        entry: u64,
+        number: u64,
+    },
+    /// A service, at this entry. The number counts what it owes there, from 0.
+    Service {
+        entry: u64,
+        service: u8,
+        number: u64,
+    },
+    /// No entry: an answer to a connect that was refused.
+    Direct,
+}
 
 /// A record that was sent.
 #[derive(Debug, Drop)]

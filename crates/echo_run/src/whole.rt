@@ -1,82 +1,83 @@
 // All that a run writes.
-use crate::page::put;
-use crate::reporting::{numbered, put_orders, streams};
-use crate::{Kept, MemberEnd, Report, Run, ServiceRun};
-use cl_base::{Bytes, List, NoMemory};
+ghost use Rattle.std.specs.Prelude.{◌≡◌, ◌++◌, OnOk, string_bytes};
+ghost use Rattle.echo_run.specs.Text.{member_line};
+
+use crate::entries::{put_entries, put_inputs, put_log};
+use crate::run::Run;
+use crate::streams::put_streams;
+use crate::told::put_orders;
+use cl_base::{Bytes, NoMemory};
+use line_text::{put, put_count, put_value};
 use scenario::Order;
 use std::alloc::Global;
 
+fn put_member_line(
+    page: &mut String,
+    candidate: i64,
+    entries: u64,
+    same: u64,
+    commit: u64,
+) -> Result<(), NoMemory>
+    ensures { OnOk result (string_bytes page.new ≡ string_bytes page.old ++ member_line candidate entries same commit) }
+{
+    put_value(page, "member 0 up candidate ", candidate)?;
+    put_count(page, " entries ", entries)?;
+    put_count(page, " same ", same)?;
+    put_count(page, " commit ", commit)?;
+    put(page, " snapshots 0")?;
+    put(page, "\n")
+}
+
 impl Run {
-    ghost use Rattle.std.specs.Prelude.{◌≡◌, IfOk, None};
+    ghost use Rattle.std.specs.Prelude.{◌≡◌, ◌++◌, IfOk, OnOk, true, string_bytes};
     ghost use Rattle.echo_run.specs.Driver.{IsKept, world_of};
-    ghost use Rattle.echo_run.specs.Reported.{member_of, report_of, text_of, run_text};
-    ghost use Rattle.echo_run.specs.Form.{unbuilt};
+    ghost use Rattle.echo_run.specs.Reported.{member_text, text_of, run_text};
+    ghost use Rattle.echo_run.specs.Form.{is_of_form};
 
-    fn member(&self) -> Result<MemberEnd, NoMemory>
+    /// The member, and the entries of its log that aren't committed.
+    fn put_member(&self, page: &mut String) -> Result<(), NoMemory>
         requires { IsKept self.now }
-        ensures { IfOk result (λ m. m ≡ member_of (world_of self.now)) }
+        ensures { OnOk result (string_bytes page.new ≡ string_bytes page.old ++ member_text (world_of self.now)) }
     {
-        let own = numbered(
-            self.alloc,
+        let entries = self.log.len() as u64;
+        put_member_line(
+            page,
+            self.election.candidate,
+            entries,
             self.commit,
-            &self.log.as_slice()[self.commit as usize..],
+            self.commit,
         )?;
-        Ok(MemberEnd::Up {
-            member: 0,
-            commit: self.commit,
-            kept: Kept {
-                candidate: self.election.candidate,
-                entries: self.log.len() as u64,
-                same: self.commit,
-                own,
-                snapshots: List::new(self.alloc),
-            },
-        })
+        let own = &self.log.as_slice()[self.commit as usize..];
+        put_entries(page, "own", self.commit, own)
     }
 
-    /// The report of the run so far.
-    fn report(&self) -> Result<Report, NoMemory>
+    /// The orders that were answered, the log, the service's inputs, the streams and the member.
+    fn put_all(&self, page: &mut String) -> Result<(), NoMemory>
         requires { IsKept self.now }
-        ensures { IfOk result (λ r. r ≡ report_of (world_of self.now)) }
+        ensures { OnOk result (string_bytes page.new ≡ string_bytes page.old ++ text_of (world_of self.now)) }
     {
-        let log = numbered(self.alloc, 0, &self.log.as_slice()[..self.commit as usize])?;
-        let inputs = numbered(
-            self.alloc,
-            0,
-            &self.log.as_slice()[..self.consumed as usize],
-        )?;
-        let mut runs = List::new(self.alloc);
-        runs.push(ServiceRun {
-            member: 0,
-            service: 0,
-            run: 1,
-            from: 0,
-            inputs,
-        })?;
-        let mut members = List::new(self.alloc);
-        members.push(self.member()?)?;
-        Ok(Report {
-            log,
-            runs,
-            streams: streams(self.alloc, self.sent.as_slice())?,
-            members,
-        })
+        let log = self.log.as_slice();
+        put_orders(page, self.told.as_slice())?;
+        put_log(page, &log[..self.commit as usize])?;
+        put_inputs(page, &log[..self.consumed as usize])?;
+        put_streams(page, self.sent.as_slice())?;
+        self.put_member(page)?;
+        put(page, "done\n")
     }
 
-    /// A line for each order that was answered, and the report.
+    /// What the run so far writes.
     fn text(&self) -> Result<Bytes, NoMemory>
         requires { IsKept self.now }
         ensures { IfOk result (λ t. t ≡ text_of (world_of self.now)) }
     {
         let mut page = String::new(self.alloc);
-        put_orders(&mut page, self.told.as_slice())?;
-        self.report()?.put(&mut page)?;
+        self.put_all(&mut page)?;
         Ok(Bytes::from_vec(page.into_bytes()))
     }
 
     /// What a run of these orders writes.
     pub(crate) fn written(alloc: Global, orders: &[Order]) -> Result<Bytes, NoMemory>
-        requires { unbuilt orders.now ≡ None }
+        requires { is_of_form orders.now ≡ true }
         ensures { IfOk result (λ text. text ≡ run_text orders.now) }
     {
         let mut run = Run::new(alloc)?;

@@ -6,16 +6,19 @@ use Rattle.cl_base.specs.declared.fault.Trouble.{Trouble}
 use Rattle.cl_base.specs.declared.fault.Trouble.TheVariants as troubles
 use Rattle.line_text.specs.Written.{IsPart, IsFront, IsTold, IsCutShort, Tells, Adds}
 
-front_same : (a : List ℕ) → IsFront a a
+-- a text is its own front
+pub front_same : (a : List ℕ) → IsFront a a
 front_same a = record { rest = []; whole = append-nil a }
 
-front_then : (a b c : List ℕ) → IsFront a b → IsFront b c → IsFront a c
+-- a front of a front
+pub front_then : (a b c : List ℕ) → IsFront a b → IsFront b c → IsFront a c
 front_then a b c f g = record { rest = f.rest ++ g.rest; whole = sym (append_assoc a f.rest g.rest) ∙ ap (λ x. x ++ g.rest) f.whole ∙ g.whole }
 
 front_on : (a b c : List ℕ) → IsFront a b → IsFront a (b ++ c)
 front_on a b c f = record { rest = f.rest ++ c; whole = sym (append_assoc a f.rest c) ∙ ap (λ x. x ++ c) f.whole }
 
-front_of : (a b : List ℕ) → IsFront a (a ++ b)
+-- a text begins with its first part
+pub front_of : (a b : List ℕ) → IsFront a (a ++ b)
 front_of a b = record { rest = b; whole = refl }
 
 -- what was held goes first
@@ -43,6 +46,11 @@ cut_on h p x y h1 f = record {
 tells_then : {T E : Type 0} → (r : Result T E) (h p x h1 p1 y h2 p2 : List ℕ) → IsTold h p x h1 p1 → Tells r h1 p1 y h2 p2 → Tells r h p (x ++ y) h2 p2
 tells_then (Ok u) h p x h1 p1 y h2 p2 f g = told_then h p x h1 p1 y h2 p2 f g
 tells_then (Err e) h p x h1 p1 y h2 p2 f g = cut_then h p x h1 p1 y h2 f g
+
+-- however a telling ends, what was held is still held
+pub tells_more : {T E : Type 0} → (r : Result T E) (h p x h1 p1 : List ℕ) → Tells r h p x h1 p1 → IsFront h h1
+tells_more (Ok u) h p x h1 p1 f = f.more
+tells_more (Err e) h p x h1 p1 f = f.more
 
 module _ {O : Type 0} (tells : O → Bool) (held : O → List ℕ) (faults : O → ℕ) where
   -- nothing was told

@@ -1,21 +1,12 @@
 -- What is written in several parts.
-use Rattle.std.proofs.Common.{◌≡◌, ℕ, Bool, List, [], ◌++◌, take, IsTrue, Result, Ok, Err, refl, sym, ap, ◌∙◌, subst, arith, append_assoc, append-nil, le_refl}
+use Rattle.std.proofs.Common.{◌≡◌, ℕ, Bool, List, ◌++◌, take, IsTrue, Result, Ok, Err, refl, sym, ap, ◌∙◌, subst, arith, le_refl}
 use Rattle.std.specs.Prelude.{IsErr, IsErrAnd, OnOk, OnErr}
 use Rattle.cl_base.specs.Counts.{HasCause}
 use Rattle.cl_base.specs.declared.fault.Trouble.{Trouble}
 use Rattle.cl_base.specs.declared.fault.Trouble.TheVariants as troubles
-use Rattle.line_text.specs.Written.{IsPart, IsFront, Tells, Adds}
+use Rattle.line_text.specs.Written.{IsPart, IsFront, Adds}
+use Rattle.line_text.proofs.Telling.{front_same, front_then, tells_more}
 use Rattle.run_listing.specs.Sinks.{Writes}
-
-pub front_same : (a : List ℕ) → IsFront a a
-front_same a = record { rest = []; whole = append-nil a }
-
-pub front_then : (a b c : List ℕ) → IsFront a b → IsFront b c → IsFront a c
-front_then a b c f g = record { rest = f.rest ++ g.rest; whole = sym (append_assoc a f.rest g.rest) ∙ ap (λ x. x ++ g.rest) f.whole ∙ g.whole }
-
-tells_more : {T E : Type 0} → (r : Result T E) (h p x h1 p1 : List ℕ) → Tells r h p x h1 p1 → IsFront h h1
-tells_more (Ok u) h p x h1 p1 f = f.more
-tells_more (Err e) h p x h1 p1 f = f.more
 
 given_more : {T : Type 0} → (r : Result T Trouble) (h x h1 : List ℕ) → OnOk r (h1 ≡ h ++ x) → OnErr r (IsPart h x h1) → IsFront h h1
 given_more (Ok u) h x h1 whole part = record { rest = x; whole = sym whole }

@@ -1,7 +1,7 @@
 use Rattle.std.proofs.Common.{string_bytes}
 use Rattle.std.proofs.lemmas.Result.{on_ok_weaker}
 use Rattle.cluster_tool.specs.Text.{snapshot_front, snapshot_back}
-use Rattle.cluster_tool.proofs.Chains.{joined}
+use Rattle.line_text.proofs.Chains.{joined}
 use Rattle.cluster_tool.proofs.lines.put_snapshot.Goals as goal
 
 pub returns : goal.returns

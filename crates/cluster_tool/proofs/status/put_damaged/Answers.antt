@@ -1,7 +1,7 @@
 use Rattle.std.proofs.Common.{◌++◌, codes, string_bytes}
 use Rattle.std.proofs.lemmas.Result.{on_ok_weaker}
 use Rattle.line_text.specs.Pieces.{count}
-use Rattle.cluster_tool.proofs.Chains.{joined}
+use Rattle.line_text.proofs.Chains.{joined}
 use Rattle.cluster_tool.proofs.status.put_damaged.Goals as goal
 
 pub returns : goal.returns

@@ -1,7 +1,7 @@
 use Rattle.std.proofs.Common.{arith, rules, ◌≡◌, ◌++◌, ap, ◌∷◌, [], length}
 use Rattle.echo_run.specs.Module.{session_of}
 use Rattle.echo_run.specs.Owed.{given_to, owed_outputs}
-use Rattle.echo_run.specs.declared.report.Origin.TheVariants as origin
+use Rattle.echo_run.specs.declared.sent.Origin.TheVariants as origin
 use Rattle.echo_run.proofs.Sending.{outputs_given, outputs_other, given_most}
 use Rattle.echo_run.proofs.owing.put_outputs.Goals as goal
 use Rattle.echo_run.proofs.owing.put_outputs.Goals.{in-Egress+in_ok-owed, in_default}

@@ -1,7 +1,7 @@
 use Rattle.std.proofs.Common.{◌≤◌, ◌∙◌, ap, subst, ℕ}
 use Rattle.std.proofs.lemmas.Result.{on_ok_weaker}
 use Rattle.entry_log.specs.declared.name.LogName.{LogName}
-use Rattle.echo_run.specs.Module.{term_of}
+use Rattle.sbe_events.specs.Spelling.{term_of}
 use Rattle.echo_run.proofs.Driving.{kept_with, world_with, next_below}
 use Rattle.echo_run.proofs.run.Run.append.Goals as goal
 

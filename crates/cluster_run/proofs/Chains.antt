@@ -1,6 +1,0 @@
--- Texts in pieces.
-use Rattle.std.proofs.Common.{◌≡◌, ℕ, List, ◌++◌, ◌∙◌, ap, append_assoc}
-
--- two pieces, the first of which may be several
-pub joined : (s r t a b : List ℕ) → r ≡ s ++ a → t ≡ r ++ b → t ≡ s ++ (a ++ b)
-joined s r t a b first then = then ∙ ap (λ ys. ys ++ b) first ∙ append_assoc s a b

@@ -1,0 +1,5 @@
+pub mod Status
+pub mod Reading
+pub mod Disks
+pub mod Needed
+pub mod Begins
