@@ -1,5 +1,7 @@
-//! A client at worked moments: each state with each kind of egress, and an exchange byte by byte.
+//! A client at worked moments: each state with each kind of egress, an exchange byte by byte, and a joined client's turns.
 #![tactic(auto)]
 
+#[cfg(test)]
+mod joined;
 #[cfg(test)]
 mod tests;
