@@ -43,13 +43,13 @@ struct Task {
 }
 
 /// The members and services that orders name.
-fn site_of(alloc: Global, members: u64, orders: &[Order]) -> Result<Site, Status>
+fn site_of(alloc: Global, orders: &[Order]) -> Result<Site, Status>
     ensures { IfErr result (λ s. s ≡ Status.NoMemory) }
 {
     let Ok(kinds) = kinds_of(alloc, orders) else {
         return Err(Status::NoMemory);
     };
-    match Site::new(alloc, members, kinds) {
+    match Site::new(alloc, members_of(orders), kinds) {
         Some(site) => Ok(site),
         None => Err(Status::NoMemory),
     }
@@ -60,7 +60,7 @@ fn prepared<D: Disk>(alloc: Global, disks: &mut [D], orders: &[Order]) -> Result
     ensures { IfErr result (CannotBegin D.tells D.state D.fault_count (members_in orders.now) (disks_in orders.now) disks.old disks.new) }
 {
     match prepare(disks, orders) {
-        Ok(()) => site_of(alloc, members_of(orders), orders),
+        Ok(()) => site_of(alloc, orders),
         Err(status) => Err(status),
     }
 }

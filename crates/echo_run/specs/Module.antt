@@ -1,5 +1,5 @@
--- What the log means to the module: the open sessions, the next session's number and the leader.
-use Rattle.std.specs.Prelude.{ℕ, ◌+◌, ℤ, pos, negsuc, ◌+ℤ◌, Bool, not, List, [], ◌∷◌, ◌++◌, filter, find, fold, length, Option}
+-- Where a log ends, and what it means to the module: the open sessions, the next session's number and the leader.
+use Rattle.std.specs.Prelude.{ℕ, ℤ, pos, negsuc, ◌+ℤ◌, Bool, not, List, [], ◌∷◌, ◌++◌, filter, find, fold, length, Option}
 use Rattle.entry_log.specs.Log.{same_term, end_after}
 use Rattle.sbe_events.specs.Spelling.{spelling_of, term_of}
 use Rattle.sbe_events.specs.declared.event.Event.{Event}

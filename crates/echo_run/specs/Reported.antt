@@ -6,11 +6,12 @@ use Rattle.scenario.specs.declared.order.Order.{Order}
 use Rattle.echo_run.specs.Text.{order_line, entry_lines, log_text, inputs_text, streams_from, member_line}
 use Rattle.echo_run.specs.World.{World, world_after}
 
--- The one member never loses an entry, so the printed log is the front of its own. Behind it stand its own entries.
+-- The one member never loses an entry, so the printed log is the front of its own. Behind it stand these.
+abbrev pub own_text : World → List ℕ
+own_text w = entry_lines (codes "own") (length w.printed) (drop (length w.printed) w.member.log)
+
 abbrev pub member_text : World → List ℕ
-member_text w =
-    member_line w.member.election.candidate (length w.member.log) (length w.printed) w.member.commit
-    ++ entry_lines (codes "own") (length w.printed) (drop (length w.printed) w.member.log)
+member_text w = member_line w.member.election.candidate (length w.member.log) (length w.printed) w.member.commit ++ own_text w
 
 abbrev pub last_line : List ℕ
 last_line = codes "done" ++ newline

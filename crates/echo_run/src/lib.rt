@@ -25,5 +25,5 @@ pub use laws::{
     consumes_a_front, headline, is_sent_by_the_leader, leads_its_log, sends_once,
     sends_what_is_owed, worked_run,
 };
-pub use module::{Module, Session};
-pub use sent::{OrderLine, Origin, Outcome, Sent};
+pub(crate) use module::{Module, Session};
+pub(crate) use sent::{OrderLine, Origin, Outcome, Sent};

@@ -31,24 +31,25 @@ fn put_member_line(
 impl Run {
     ghost use Rattle.std.specs.Prelude.{◌≡◌, ◌++◌, IfOk, OnOk, true, string_bytes};
     ghost use Rattle.echo_run.specs.Driver.{IsKept, world_of};
-    ghost use Rattle.echo_run.specs.Reported.{member_text, text_of, run_text};
+    ghost use Rattle.echo_run.specs.Reported.{own_text, member_text, text_of, run_text};
     ghost use Rattle.echo_run.specs.Form.{is_of_form};
 
-    /// The member, and the entries of its log that aren't committed.
+    /// The entries of its log that aren't committed.
+    fn put_own(&self, page: &mut String) -> Result<(), NoMemory>
+        requires { IsKept self.now }
+        ensures { OnOk result (string_bytes page.new ≡ string_bytes page.old ++ own_text (world_of self.now)) }
+    {
+        let own = &self.log.as_slice()[self.commit as usize..];
+        put_entries(page, "own", self.commit, own)
+    }
+
     fn put_member(&self, page: &mut String) -> Result<(), NoMemory>
         requires { IsKept self.now }
         ensures { OnOk result (string_bytes page.new ≡ string_bytes page.old ++ member_text (world_of self.now)) }
     {
-        let entries = self.log.len() as u64;
-        put_member_line(
-            page,
-            self.election.candidate,
-            entries,
-            self.commit,
-            self.commit,
-        )?;
-        let own = &self.log.as_slice()[self.commit as usize..];
-        put_entries(page, "own", self.commit, own)
+        let (entries, commit) = (self.log.len() as u64, self.commit);
+        put_member_line(page, self.election.candidate, entries, commit, commit)?;
+        self.put_own(page)
     }
 
     /// The orders that were answered, the log, the service's inputs, the streams and the member.
