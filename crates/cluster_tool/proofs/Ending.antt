@@ -1,22 +1,19 @@
 -- How listings end.
-use Rattle.std.proofs.Common.{◌≡◌, ◌⊎◌, ℕ, zero, suc, ◌+◌, ◌-◌, ◌^◌, ◌≤◌, min, Bool, IsTrue, List, [], ◌∷◌, ◌++◌, map, Option, Some, None, Result, Ok, Err, refl, sym, ap, ◌∙◌, subst, arith, inl, inr, ⊎_elim}
+use Rattle.std.proofs.Common.{◌≡◌, ◌⊎◌, ℕ, zero, suc, ◌≤◌, Bool, IsTrue, List, [], ◌∷◌, map, Option, Some, None, Err, refl, sym, ap, ◌∙◌, subst, arith, inl, inr}
 use Rattle.cl_base.specs.Counts.{Rose}
 use Rattle.cl_base.specs.Faults.{HasMountCause}
-use Rattle.cl_base.specs.Disk.{FileState, DiskState, OthersStay}
-use Rattle.cl_base.specs.declared.fault.Trouble.{Trouble}
-use Rattle.cl_base.specs.declared.fault.Trouble.TheVariants as troubles
+use Rattle.cl_base.specs.Disk.{FileState, DiskState}
 use Rattle.cl_base.specs.declared.fault.MemberFault.{MemberFault}
 use Rattle.cl_base.specs.declared.fault.MemberFault.TheVariants as fault
-use Rattle.log_segment.specs.Looked.{IsNoDamage}
 use Rattle.member_disk.specs.Kept.{Kept, Held}
 use Rattle.cluster_tool.specs.declared.status.ToolStatus.{ToolStatus}
 use Rattle.cluster_tool.specs.declared.status.ToolStatus.TheVariants as status
-use Rattle.cluster_tool.specs.Status.{status_of, status_text, ended, IsOrGivesUp}
-use Rattle.cluster_tool.specs.Told.{NoWriteFault, Told}
+use Rattle.cluster_tool.specs.Status.{status_of, status_text, IsOrGivesUp}
+use Rattle.cluster_tool.specs.Told.{Told}
 use Rattle.cluster_tool.specs.Text.{verify_text}
-use Rattle.cluster_tool.specs.Words.{Tool, Listing, describe, recording, verify}
-use Rattle.cluster_tool.specs.Disks.{IsOld, IsSeen, IsRead, IsStill, TurnedBy, TurnsAway, FailsAt, MountFails, EndsFor, FailsFor, EndsBoth, AllTell, AreSeen, AreRead, RoseAt, NoneOld, IsOldAt, NamesOld}
-use Rattle.cluster_tool.specs.Listed.{IsMounted, StandFor, StandBefore, Leaves, HoldsMore, Lists, services_in, Ends, EndsWith, Runs, Answers, IsDescribed}
+use Rattle.cluster_tool.specs.Words.{Tool, Listing, verify}
+use Rattle.cluster_tool.specs.Disks.{IsSeen, IsRead, IsStill, TurnedBy, FailsAt, EndsFor, EndsBoth, AllTell, AreSeen, AreRead, RoseAt, NoneOld, IsOldAt, NamesOld}
+use Rattle.cluster_tool.specs.Listed.{IsMounted, StandFor, StandBefore, Leaves, HoldsMore, Lists, services_in, Ends, EndsWith, Runs, Answers}
 use Rattle.cluster_tool.proofs.Sinks.{leaves_told}
 
 pub rose_before : (a b c : ℕ) → a ≤ b → Rose b c → Rose a c

@@ -1,5 +1,5 @@
 -- Two logs are told as equal exactly where they are.
-use Rattle.std.proofs.Common.{◌≡◌, ℕ, suc, Bool, true, false, List, [], ◌∷◌, Option, Some, None, refl, sym, ap, ◌∙◌}
+use Rattle.std.proofs.Common.{◌≡◌, ℕ, suc, Bool, true, false, [], ◌∷◌, Some, None, refl, ap, ◌∙◌}
 use Rattle.std.specs.Prelude.{if◌then◌else◌, bytes_eq}
 use Rattle.std.specs.Ordering.{int_eq}
 use Rattle.std.proofs.lemmas.Bool.{and_parts, and_from}
@@ -7,10 +7,9 @@ use Rattle.std.proofs.lemmas.Bool.Decides.{Decides-int_eq}
 use Rattle.std.proofs.lemmas.Slice.Eq.{bytes_eq-Decides}
 use Rattle.cl_base.specs.declared.entry.Entry.{Entry}
 use Rattle.entry_log.specs.Log.{Log}
-use Rattle.cluster_tool.specs.declared.compare.Outcome.{Outcome}
 use Rattle.cluster_tool.specs.declared.compare.Outcome.TheVariants as outcome
 use Rattle.cluster_tool.specs.declared.compare.Comparison.{Comparison}
-use Rattle.cluster_tool.specs.Compared.{is_same, differing, differ_or, compared_from}
+use Rattle.cluster_tool.specs.Compared.{is_same, differ_or, compared_from}
 
 same_true : (a b : Entry) → is_same a b ≡ true → a ≡ b
 same_true a b is =

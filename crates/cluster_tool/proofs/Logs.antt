@@ -1,11 +1,10 @@
 -- Two logs, entry by entry, and the terms that begin in one.
-use Rattle.std.proofs.Common.{◌≡◌, ℕ, zero, suc, pos, ◌+◌, ◌<◌, ◌≤◌, min, Bool, true, false, List, [], ◌∷◌, ◌++◌, length, get_or, take, drop, Option, Some, None, refl, sym, ap, ◌∙◌, subst, arith, add-one, length-append, length-drop}
+use Rattle.std.proofs.Common.{◌≡◌, ℕ, pos, ◌+◌, ◌<◌, min, Bool, true, false, List, [], ◌∷◌, length, get_or, take, drop, Option, Some, None, refl, sym, ap, ◌∙◌, arith, add-one, length-append, length-drop}
 use Rattle.std.proofs.lemmas.Bool.{cond-true, cond-false, lt-ltb, le-ltb}
 use Rattle.wire_prims.specs.Fields.{u16_at}
 use Rattle.std.specs.Prelude.{is_some, nat_lt, if◌then◌else◌, ◌==◌, ◌&&◌}
 use Rattle.std.proofs.lemmas.List.{take_more}
 use Rattle.std.proofs.Math.Seq.{drop-cons}
-use Rattle.std.proofs.Math.ListN.{drop_of_length-le}
 use Rattle.cl_base.specs.declared.entry.Entry.{Entry}
 use Rattle.entry_log.specs.Log.{Log}
 use Rattle.log_segment.specs.Held.{new_term_of, put_term, new_terms}
@@ -15,7 +14,7 @@ use Rattle.cluster_tool.specs.declared.compare.Outcome.{Outcome}
 use Rattle.cluster_tool.specs.declared.compare.Outcome.TheVariants as outcome
 use Rattle.cluster_tool.specs.declared.compare.Comparison.{Comparison}
 use Rattle.cluster_tool.specs.Text.{begun}
-use Rattle.cluster_tool.specs.Compared.{is_same, differing, differ_or, longer, compared_from}
+use Rattle.cluster_tool.specs.Compared.{differing, differ_or, longer, compared_from}
 
 -- any entry
 pub no_entry : Entry

@@ -1,10 +1,8 @@
 -- What reads of entries find.
-use Rattle.std.proofs.Common.{◌≡◌, ℕ, ◌+◌, ◌<◌, ◌≤◌, List, [], ◌∷◌, ◌++◌, length, get_or, take, drop, Bool, IsTrue, Result, Ok, Err, refl, sym, ap, ◌∙◌, subst, arith, add-one, length-take-le, take-append-drop}
-use Rattle.std.specs.Prelude.{IfOk, IfErr, OnOk, MatchResult}
+use Rattle.std.proofs.Common.{◌≡◌, ℕ, ◌+◌, ◌<◌, List, ◌∷◌, ◌++◌, length, get_or, take, drop, Bool, IsTrue, Result, Ok, Err, refl, sym, ap, ◌∙◌, subst, arith, add-one, length-take-le, take-append-drop}
+use Rattle.std.specs.Prelude.{IfOk, IfErr}
 use Rattle.std.proofs.Math.Seq.{drop-cons}
-use Rattle.cl_base.specs.declared.entry.Entry.{Entry}
 use Rattle.cl_base.specs.declared.fault.MemberFault.{MemberFault}
-use Rattle.entry_log.specs.Log.{Log}
 use Rattle.log_segment.specs.Looked.{IsOnly, IsNoDamage}
 use Rattle.cl_base.specs.Disk.{DiskState}
 use Rattle.cl_base.specs.declared.fault.MemberFault.TheVariants as fault

@@ -1,5 +1,5 @@
 -- What answers leave of a sink.
-use Rattle.std.proofs.Common.{◌≡◌, ℕ, Bool, List, [], ◌++◌, take, IsTrue, Result, Ok, Err, refl, sym, ap, ◌∙◌, subst, arith, inl, inr, ⊎_elim, append-nil, le_refl}
+use Rattle.std.proofs.Common.{◌≡◌, ℕ, Bool, List, [], ◌++◌, take, IsTrue, Result, Ok, Err, refl, sym, ap, ◌∙◌, subst, inl, inr, append-nil, le_refl}
 use Rattle.std.proofs.Math.Seq.{take-nil}
 use Rattle.std.specs.Prelude.{OnOk, OnErr}
 use Rattle.cl_base.specs.Counts.{HasCause}
@@ -84,9 +84,9 @@ module _ {O : Type 0} (tells : O → Bool) (held : O → List ℕ) (faults : O �
 
   -- what a listing leaves
   pub leaves_listed : {T : Type 0} (a b : O) (x : List ℕ) (r : Result T Trouble) → Adds tells held faults a b [] [] x r → Leaves tells held faults a b (ended status.Done r)
-  leaves_listed {T} a b x (Ok u) f = record { later = f.cause.later; same = f.same; fault = λ is. absurd cc; refusal = λ t plain. absurd plain; more = λ t. tells_more {T = T} (Ok u) (held a) [] x (held b) [] (f.told t) }
-  leaves_listed {T} a b x (Err troubles.Failed) f = record { later = f.cause.later; same = f.same; fault = λ is. f.cause.failed refl; refusal = λ t plain. absurd plain; more = λ t. tells_more {T = T} (Err troubles.Failed) (held a) [] x (held b) [] (f.told t) }
-  leaves_listed {T} a b x (Err troubles.NoMemory) f = record { later = f.cause.later; same = f.same; fault = λ is. absurd cc; refusal = λ t plain. absurd plain; more = λ t. tells_more {T = T} (Err troubles.NoMemory) (held a) [] x (held b) [] (f.told t) }
+  leaves_listed {T} a b x (Ok u) f = record { later = f.cause.later; same = f.same; fault = λ is. absurd cc; refusal = λ t plain. absurd plain; more = λ t. tells_more {T = T} {E = Trouble} (Ok u) (held a) [] x (held b) [] (f.told t) }
+  leaves_listed {T} a b x (Err troubles.Failed) f = record { later = f.cause.later; same = f.same; fault = λ is. f.cause.failed refl; refusal = λ t plain. absurd plain; more = λ t. tells_more {T = T} {E = Trouble} (Err troubles.Failed) (held a) [] x (held b) [] (f.told t) }
+  leaves_listed {T} a b x (Err troubles.NoMemory) f = record { later = f.cause.later; same = f.same; fault = λ is. absurd cc; refusal = λ t plain. absurd plain; more = λ t. tells_more {T = T} {E = Trouble} (Err troubles.NoMemory) (held a) [] x (held b) [] (f.told t) }
 
   whole_of : (h x h1 : List ℕ) → IsTold h [] x h1 [] → h1 ≡ h ++ x
   whole_of h x h1 f = sym (append-nil h1) ∙ f.all ∙ ap (λ z. z ++ x) (append-nil h)

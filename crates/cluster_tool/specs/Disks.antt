@@ -1,5 +1,5 @@
 -- What a call of the tool finds on disks, and leaves of them.
-use Rattle.std.specs.Prelude.{◌≡◌, ◌≢◌, ◌⊎◌, ℕ, zero, suc, ◌<◌, ◌≤◌, Bool, IsTrue, List, [], ◌∷◌, length, slice_index, Option, Some, None, Result, IfErr, ⊤}
+use Rattle.std.specs.Prelude.{◌≡◌, ◌≢◌, ◌⊎◌, ℕ, zero, suc, ◌≤◌, Bool, IsTrue, List, [], ◌∷◌, length, slice_index, Result, IfErr, ⊤}
 use Rattle.cl_base.specs.Counts.{Rose}
 use Rattle.cl_base.specs.Disk.{FileState, DiskState, OthersStay}
 use Rattle.cl_base.specs.Faults.{HasMountCause}

@@ -1,5 +1,5 @@
 -- What a listing tells, by what the disks' files stand for.
-use Rattle.std.specs.Prelude.{◌≡◌, ◌⊎◌, ℕ, zero, suc, ◌<◌, ◌≤◌, Bool, IsTrue, List, [], ◌∷◌, ◌++◌, map, Option, Some, None, ⊤}
+use Rattle.std.specs.Prelude.{◌≡◌, ◌⊎◌, ℕ, zero, suc, ◌≤◌, Bool, IsTrue, List, [], ◌∷◌, ◌++◌, map, Option, Some, None, ⊤}
 use Rattle.cl_base.specs.Counts.{Rose}
 use Rattle.cl_base.specs.Disk.{FileState, DiskState}
 use Rattle.recording_log.specs.declared.entry.RecEntry.{RecEntry}

@@ -1,6 +1,5 @@
 -- How a call of the tool ends, and what is written then.
 use Rattle.std.specs.Prelude.{◌≡◌, ◌⊎◌, ℕ, List, [], ◌++◌, codes, Result, Ok, Err}
-use Rattle.std.specs.Fmt.{decimal}
 use Rattle.cl_base.specs.declared.fault.Trouble.{Trouble}
 use Rattle.cl_base.specs.declared.fault.Trouble.TheVariants as trouble
 use Rattle.cl_base.specs.declared.fault.MemberFault.{MemberFault}

@@ -1,5 +1,5 @@
 -- The text of a listing, each line ended by a line feed.
-use Rattle.std.specs.Prelude.{ℕ, ◌%◌, ◌==◌, if◌then◌else◌, List, [], ◌++◌, length, codes, is_some}
+use Rattle.std.specs.Prelude.{ℕ, ◌%◌, ◌==◌, if◌then◌else◌, List, ◌++◌, length, codes, is_some}
 use Rattle.std.specs.List.{flat_map}
 use Rattle.std.specs.Fmt.{decimal, signed_decimal}
 use Rattle.recording_log.specs.declared.entry.RecEntry.{RecEntry}

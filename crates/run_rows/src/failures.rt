@@ -1,43 +1,88 @@
 // A call of a disk, a source or a sink that fails.
-use crate::lines::{lines_of, stands_in};
-use crate::runs::{disks_of, run, words_of};
-use cl_base::{MemSink, MemSource};
-use cluster_run::{Status, cluster_main};
+use crate::lines::{count_of, lines_of};
+use crate::runs::{Called, disks_of, run_on, runs};
+use cl_base::Disk;
+use run_start::Status;
 use std::alloc::Global;
 use std::sync::Wait;
 use std::test::Fail;
 use std::thread::Threads;
 
+/// Whether a text has a line that begins with one of these words.
+fn tells(words: &[&str], text: &[u8]) -> bool {
+    for front in words {
+        if count_of(front.as_bytes(), text) > 0 {
+            return true;
+        }
+    }
+    false
+}
+
+/// Runs a scenario on two disks, of one of which each call fails in turn, until a run has no call that fails. Gives the
+/// first call for which the run neither ends with the disk's fault nor tells of it by one of these lines, or for which it
+/// has none of the last lines.
+fn untold<R: Threads + Wait + Copy + Send + Sync + 'static>(
+    rt: &R,
+    alloc: Global,
+    scenario: &str,
+    disk: u8,
+    faults: &[&str],
+    always: &[&str],
+) -> Result<Option<u64>, Fail> {
+    for call in 1..10_000u64 {
+        let mut disks = disks_of(alloc, 2, disk, call)?;
+        let (status, text) = run_on(rt, alloc, lines_of(alloc, scenario)?, &mut disks)?;
+        let text = text.as_slice();
+        let failed = disks
+            .get(disk as usize)
+            .is_some_and(|disk| disk.faults() > 0);
+        if status
+            == (Status::DiskFault {
+                member: disk as u64,
+            })
+        {
+            continue;
+        }
+        if status != Status::Done || !tells(always, text) || failed != tells(faults, text) {
+            return Ok(Some(call));
+        }
+        if !failed {
+            return Ok(None);
+        }
+    }
+    Ok(Some(0))
+}
+
 const LEDGER: &str =
     "members 1 / service ledger / rounds 40 / connect 0 0 / rounds 1 / sendhex 0 0 0500000000000000 / rounds 1 / action 0 / rounds 1 / stop 0 / start 0 / rounds 40";
 
-/// A member tells that its disk failed, by a stop, by an order's answer, or in the report.
-fn tells_fault(text: &[u8]) -> bool {
-    stands_in("stopped 0", text)
-        || stands_in("order 10 device", text)
-        || stands_in("order 11 device", text)
-        || stands_in("member 0 down unread", text)
-}
+const COPIED: &str =
+    "members 1 / service ledger / rounds 40 / connect 0 0 / rounds 1 / sendhex 0 0 0500000000000000 / rounds 1 / action 0 / rounds 1 / backup 0 / rounds 6";
 
-/// The first call of the disk that fails ends the run; a later one stops the member, and the run goes on.
 #[test]
-fn one_call_of_the_disk_fails(rt: HostRuntime) -> Result<(), Fail> {
+fn one_call_of_a_disk_fails(rt: HostRuntime) -> Result<(), Fail> {
     let alloc = rt.alloc();
-    // The lengths of 1,282 files are read first, then the disk is formatted by six calls.
-    for call in 1..1_400u64 {
-        if call > 2 && call < 1_281 {
-            continue;
-        }
-        let done = run(&rt, alloc, lines_of(alloc, LEDGER)?, &[call])?;
-        let text = done.text.as_slice();
-        if call <= 1_288 {
-            assert_eq!(rt; done.status, Status::DiskFault { member: 0 }, "{call}");
-            assert!(rt; text == b"disk 0: fault\n".as_slice());
-        } else {
-            assert_eq!(rt; done.status, Status::Done, "{call}");
-            assert!(rt; tells_fault(text) || call > 1_350, "{call}");
-        }
-    }
+    // A member tells that its disk failed, by a stop, by an order's answer, or in the report.
+    let faults = [
+        "stopped 0",
+        "order 4 device",
+        "order 6 device",
+        "order 8 device",
+        "order 11 device",
+        "member 0 down unread",
+    ];
+    assert_eq!(rt; untold(&rt, alloc, LEDGER, 0, &faults, &["done"])?, None);
+    // So does the backup, whose log is that of the cluster as far as it goes.
+    let faults = ["stopped backup", "order 10 device", "backup unread"];
+    let fronts = [
+        "backup entries 0 same 0 snapshots 0",
+        "backup entries 1 same 1 snapshots 0",
+        "backup entries 2 same 2 snapshots 0",
+        "backup entries 3 same 3 snapshots 0",
+        "backup entries 4 same 4 ",
+        "backup unread",
+    ];
+    assert_eq!(rt; untold(&rt, alloc, COPIED, 1, &faults, &fronts)?, None);
     Ok(())
 }
 
@@ -48,54 +93,39 @@ const ECHO: &str =
 fn ends<R: Threads + Wait + Copy + Send + Sync + 'static>(
     rt: &R,
     alloc: Global,
+    scenario: &str,
     read: u64,
     write: u64,
 ) -> Result<(Status, Vec<u8>), Fail> {
-    let words = words_of(alloc, &["run"])?;
-    let mut source = MemSource::new(lines_of(alloc, ECHO)?, Vec::from_slice(alloc, &[read])?);
-    let mut sink = MemSink::new(alloc, Vec::from_slice(alloc, &[write])?);
-    let mut disks = disks_of(alloc, 1, &[])?;
-    let status = cluster_main(
-        rt,
-        alloc,
-        words.as_slice(),
-        &mut source,
-        &mut sink,
-        &mut disks,
-    );
-    Ok((status, Vec::from_slice(alloc, sink.held())?))
+    let called = Called {
+        words: &["run"],
+        scenario: lines_of(alloc, scenario)?,
+        read,
+        write,
+    };
+    runs(rt, alloc, called, &mut disks_of(alloc, 1, 0, 0)?)
 }
 
-/// Each read fails in turn: nothing but one line is written, until the failing read is behind the source's end.
+/// Each read and each write fails in turn. Of a read there is one line; of a write the sink holds a front of the text.
 #[test]
-fn each_read_fails(rt: HostRuntime) -> Result<(), Fail> {
+fn one_call_of_a_source_or_a_sink_fails(rt: HostRuntime) -> Result<(), Fail> {
     let alloc = rt.alloc();
-    let mut faults = 0u32;
-    for read in 1..20 {
-        let (status, text) = ends(&rt, alloc, read, 0)?;
-        if status != Status::Done {
-            assert_eq!(rt; status, Status::ReadFault);
-            assert!(rt; text.as_slice() == b"read fault\n".as_slice());
-            faults = faults.saturating_add(1);
+    for scenario in [ECHO, LEDGER] {
+        let (status, whole) = ends(&rt, alloc, scenario, 0, 0)?;
+        assert_eq!(rt; status, Status::Done);
+        for call in 1..40 {
+            let (status, text) = ends(&rt, alloc, scenario, call, 0)?;
+            let line = text.as_slice() == b"read fault\n".as_slice();
+            assert!(rt; line || text.as_slice() == whole.as_slice(), "read {call}");
+            assert_eq!(rt; status == Status::ReadFault, line, "read {call}");
+            let (status, text) = ends(&rt, alloc, scenario, 0, call)?;
+            assert!(rt;
+                whole.as_slice().starts_with(text.as_slice()),
+                "write {call}"
+            );
+            let done = text.len() == whole.len();
+            assert_eq!(rt; status == Status::WriteFault, !done, "write {call}");
         }
-    }
-    assert!(rt; faults > 0);
-    Ok(())
-}
-
-/// Each write fails in turn: the sink holds a front of the text.
-#[test]
-fn each_write_fails(rt: HostRuntime) -> Result<(), Fail> {
-    let alloc = rt.alloc();
-    let (status, whole) = ends(&rt, alloc, 0, 0)?;
-    assert_eq!(rt; status, Status::Done);
-    let (status, text) = ends(&rt, alloc, 0, 1)?;
-    assert_eq!(rt; status, Status::WriteFault);
-    assert!(rt; text.is_empty());
-    for write in 2..20 {
-        let (status, text) = ends(&rt, alloc, 0, write)?;
-        assert!(rt; whole.as_slice().starts_with(text.as_slice()));
-        assert!(rt; status == Status::WriteFault || text.len() == whole.len());
     }
     Ok(())
 }

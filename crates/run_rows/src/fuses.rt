@@ -1,93 +1,113 @@
 // Disks that stop under a run, at each changing call and with each choice of what a crash leaves.
-use crate::lines::{lines_of, stands_in};
-use crate::runs::run;
-use cluster_run::Status;
-use std::alloc::Global;
+use crate::tables::{Fused, Row, differs};
 use std::test::Fail;
 
 /// What a crash may be told to leave.
-const CHOICES: [&str; 4] = ["drop", "keep", "5a", "a7"];
+const ANY: &[&str] = &["drop", "keep", "5a", "a7"];
 
-/// The append of an open makes five changing calls: before the last of them the log is as it was.
-const BEFORE: &str =
-    "stopped 0 / order 5 device / order 6 ok / entry 1 1 term leader 0 base 96 ts 740";
+/// The append of an open makes five changing calls.
+const OPEN: Row = (
+    "members 1 / service echo / rounds 40",
+    "connect 0 0 / start 0 / rounds 40",
+);
 
-const AFTER: &str =
-    "stopped 0 / order 5 device / order 6 ok / entry 1 0 open 1 stream 0 corr 1 ts 400 channel - / entry 2 1 term leader 0 base 192 ts 740";
+const OPENED: [Fused; 4] = [
+    (
+        0,
+        3,
+        ANY,
+        "stopped 0 / order 5 device / order 6 ok / entry 1 1 term leader 0 base 96 ts 740",
+    ),
+    (
+        4,
+        4,
+        &["drop", "a7"],
+        "stopped 0 / order 5 device / order 6 ok / entry 1 1 term leader 0 base 96 ts 740",
+    ),
+    (
+        4,
+        4,
+        &["keep", "5a"],
+        "stopped 0 / order 5 device / order 6 ok / entry 1 0 open 1 stream 0 corr 1 ts 400 channel - / entry 2 1 term leader 0 base 192 ts 740",
+    ),
+    (5, 5, ANY, "order 5 accepted 1 / order 6 running"),
+];
 
-const UNHARMED: &str = "order 5 accepted 1 / order 6 running";
+/// A run that makes 46 changing calls before its `start`.
+const LEDGER: Row = (
+    "members 1 / service ledger",
+    "rounds 40 / connect 0 0 / rounds 1 / sendhex 0 0 0500000000000000 / rounds 1 / action 0 / rounds 1 / start 0 / rounds 40",
+);
 
-/// What is left of a change of so many calls where a fuse lets so many pass: before, after, or unharmed. At the last call
-/// the opened gate decides.
-pub fn left<'a>(
-    made: u32,
-    passed: u32,
-    choice: &str,
-    before: &'a str,
-    after: &'a str,
-    unharmed: &'a str,
-) -> &'a str {
-    if passed >= made {
-        return unharmed;
-    }
-    if passed + 1 == made && (choice == "keep" || choice == "5a") {
-        return after;
-    }
-    before
-}
-
-/// A scenario with a fuse among its lines.
-pub fn fused(
-    alloc: Global,
-    front: &str,
-    calls: u32,
-    choice: &str,
-    back: &str,
-) -> Result<Vec<u8>, Fail> {
-    let line = format!(in alloc; "{front} / fuse 0 {calls} {choice} / {back}")?;
-    Ok(lines_of(alloc, line.as_str())?)
-}
+const STOPPED: [Fused; 2] = [
+    (0, 45, ANY, "stopped 0 / order 11 ok / done"),
+    (46, 46, ANY, "order 11 running / done"),
+];
 
 #[test]
-fn an_append_is_before_or_after(rt: HostRuntime) -> Result<(), Fail> {
-    let alloc = rt.alloc();
-    for calls in 0..6u32 {
-        for choice in CHOICES {
-            let front = "members 1 / service echo / rounds 40";
-            let scenario = fused(
-                alloc,
-                front,
-                calls,
-                choice,
-                "connect 0 0 / start 0 / rounds 40",
-            )?;
-            let done = run(&rt, alloc, scenario, &[])?;
-            let lines = left(5, calls, choice, BEFORE, AFTER, UNHARMED);
-            assert_eq!(rt; done.status, Status::Done);
-            assert!(rt; stands_in(lines, done.text.as_slice()), "{calls} {choice}");
-        }
-    }
+fn a_stop_at_each_write(rt: HostRuntime) -> Result<(), Fail> {
+    assert_eq!(rt; differs(&rt, rt.alloc(), OPEN, &OPENED)?, None);
+    assert_eq!(rt; differs(&rt, rt.alloc(), LEDGER, &STOPPED)?, None);
     Ok(())
 }
 
-/// The run makes 46 changing calls before its `start`: each of them is the first that fails.
+/// The log ends at 64,704: the first segment has 832 bytes left.
+const FULL: &str =
+    "members 1 / service echo / rounds 40 / connect 0 0 / rounds 1 / 32 * send 0 0 @960 / rounds 1 / 31 * send 0 0 @960 / rounds 1";
+
+/// A message that doesn't fit: a pad leads to the next segment, by six changing calls.
+const PAD: Row = (FULL, "send 0 0 @960 / start 0 / rounds 40");
+
+const PADDED: [Fused; 4] = [
+    (
+        0,
+        4,
+        ANY,
+        "stopped 0 / order 72 device / order 73 ok / entry 65 1 term leader 0 base 64704 ts 770",
+    ),
+    (
+        5,
+        5,
+        &["drop", "a7"],
+        "stopped 0 / order 72 device / order 73 ok / entry 65 1 term leader 0 base 64704 ts 770",
+    ),
+    (
+        5,
+        5,
+        &["keep", "5a"],
+        "stopped 0 / order 72 device / order 73 ok / entry 66 1 term leader 0 base 66560 ts 770",
+    ),
+    (6, 6, ANY, "order 72 accepted 65 / order 73 running"),
+];
+
+/// A message that fills the segment, by seven changing calls.
+const FILL: Row = (FULL, "send 0 0 @768 / start 0 / rounds 40");
+
+const FILLED: [Fused; 4] = [
+    (
+        0,
+        5,
+        ANY,
+        "stopped 0 / order 72 device / order 73 ok / entry 65 1 term leader 0 base 64704 ts 770",
+    ),
+    (
+        6,
+        6,
+        &["drop", "a7"],
+        "stopped 0 / order 72 device / order 73 ok / entry 65 1 term leader 0 base 64704 ts 770",
+    ),
+    (
+        6,
+        6,
+        &["keep", "5a"],
+        "stopped 0 / order 72 device / order 73 ok / entry 66 1 term leader 0 base 65536 ts 770",
+    ),
+    (7, 7, ANY, "order 72 accepted 65 / order 73 running"),
+];
+
 #[test]
-fn a_stop_at_each_write(rt: HostRuntime) -> Result<(), Fail> {
-    let alloc = rt.alloc();
-    let back =
-        "rounds 40 / connect 0 0 / rounds 1 / sendhex 0 0 0500000000000000 / rounds 1 / action 0 / rounds 1 / start 0 / rounds 40";
-    for calls in 0..47u32 {
-        for choice in CHOICES {
-            let scenario = fused(alloc, "members 1 / service ledger", calls, choice, back)?;
-            let done = run(&rt, alloc, scenario, &[])?;
-            let lines = if calls < 46 {
-                "stopped 0 / order 11 ok / done"
-            } else {
-                "order 11 running / done"
-            };
-            assert_eq!(rt; done.status, Status::Done);
-            assert!(rt; stands_in(lines, done.text.as_slice()), "{calls} {choice}");
-        }
-    }
+fn a_stop_at_the_end_of_a_segment(rt: HostRuntime) -> Result<(), Fail> {
+    assert_eq!(rt; differs(&rt, rt.alloc(), PAD, &PADDED)?, None);
+    assert_eq!(rt; differs(&rt, rt.alloc(), FILL, &FILLED)?, None);
     Ok(())
 }

@@ -1,6 +1,8 @@
-//! Scenarios run through the top call on disks in memory, and the lines that each of them must write.
+//! Scenarios run through the top call on disks in memory, and what each of them must write.
 #![tactic(auto)]
 
+#[cfg(test)]
+mod backups;
 #[cfg(test)]
 mod clients;
 #[cfg(test)]
@@ -9,8 +11,6 @@ mod failures;
 mod fuses;
 #[cfg(test)]
 mod leaders;
-#[cfg(test)]
-mod limits;
 #[cfg(test)]
 mod lines;
 #[cfg(test)]
@@ -22,6 +22,6 @@ mod phases;
 #[cfg(test)]
 mod runs;
 #[cfg(test)]
-mod segments;
-#[cfg(test)]
 mod statuses;
+#[cfg(test)]
+mod tables;

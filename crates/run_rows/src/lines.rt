@@ -1,89 +1,90 @@
-// The lines of a scenario, and those that stand in a text.
-use cl_base::NoMemory;
+// Lines in a short form, and those that stand in a text.
 use std::alloc::Global;
+use std::test::Fail;
 
-/// Puts a line behind a text.
-pub fn put_line(text: &mut Vec<u8>, line: &str) -> Result<(), NoMemory> {
-    text.extend_from_slice(line.as_bytes())?;
-    text.extend_from_slice(b"\n")?;
+/// Puts a line behind a text. `@N` at its end stands for N letters `a`.
+fn put_line(text: &mut Vec<u8>, line: &str) -> Result<(), Fail> {
+    match line.split_once("@") {
+        Some((front, count)) => {
+            text.extend_from_slice(front.as_bytes())?;
+            for _ in 0..count.parse::<u32>()? {
+                text.push(b'a')?;
+            }
+        }
+        None => text.extend_from_slice(line.as_bytes())?,
+    }
+    text.push(b'\n')?;
     Ok(())
 }
 
-/// The text of lines that are separated by ` / `.
-pub fn lines_of(alloc: Global, short: &str) -> Result<Vec<u8>, NoMemory> {
+/// Puts lines behind a text that are separated by ` + `.
+fn put_lines(text: &mut Vec<u8>, lines: &str) -> Result<(), Fail> {
+    for line in lines.split(" + ") {
+        put_line(text, line)?;
+    }
+    Ok(())
+}
+
+/// The text of lines that are separated by ` / `. `N * LINE + LINE` stands for these lines N times. No words are no lines.
+pub fn lines_of(alloc: Global, short: &str) -> Result<Vec<u8>, Fail> {
     let mut text = Vec::new(alloc);
-    let mut rest = short;
-    for _ in 0..short.len() {
-        match rest.split_once(" / ") {
-            Some((line, behind)) => {
-                put_line(&mut text, line)?;
-                rest = behind;
+    if short.is_empty() {
+        return Ok(text);
+    }
+    for lines in short.split(" / ") {
+        match lines.split_once(" * ") {
+            Some((count, again)) => {
+                for _ in 0..count.parse::<u32>()? {
+                    put_lines(&mut text, again)?;
+                }
             }
-            None => break,
+            None => put_line(&mut text, lines)?,
         }
     }
-    put_line(&mut text, rest)?;
     Ok(text)
 }
 
-/// Puts lines that are separated by ` / ` so many times behind a text.
-pub fn put_times(
-    alloc: Global,
-    text: &mut Vec<u8>,
-    short: &str,
-    times: u32,
-) -> Result<(), NoMemory> {
-    let lines = lines_of(alloc, short)?;
-    for _ in 0..times {
-        text.extend_from_slice(lines.as_slice())?;
-    }
-    Ok(())
+/// What stands behind the first line of a text, and that line.
+fn first_line(text: &[u8]) -> Option<(&[u8], &[u8])> {
+    let end = text.iter().position(|b| *b == b'\n')?;
+    Some((&text[..end], &text[end + 1..]))
 }
 
-/// A word of a line, and so many letters `a` behind it.
-pub fn letters(alloc: Global, front: &str, count: u32) -> Result<String, NoMemory> {
-    let mut line = String::from_str(alloc, front)?;
-    for _ in 0..count {
-        line.push('a')?;
+/// Whether a line is the one that is wanted. A wanted line that ends with `..` is one by its front.
+fn is_wanted(wanted: &[u8], line: &[u8]) -> bool {
+    match wanted.strip_suffix(b"..") {
+        Some(front) => line.starts_with(front),
+        None => line == wanted,
     }
-    Ok(line)
 }
 
-/// What stands behind the first of these lines, where it is among them.
-fn behind_line<'a>(line: &[u8], text: &'a [u8]) -> Option<&'a [u8]> {
+/// What stands behind the first line that is wanted, where there is one.
+fn behind<'a>(wanted: &[u8], text: &'a [u8]) -> Option<&'a [u8]> {
     let mut rest = text;
     for _ in 0..text.len() {
-        match rest.iter().position(|b| *b == b'\n') {
-            Some(end) => {
-                let is_it = &rest[..end] == line;
-                rest = &rest[end + 1..];
-                if is_it {
-                    return Some(rest);
-                }
-            }
-            None => return None,
+        let (line, behind) = first_line(rest)?;
+        if is_wanted(wanted, line) {
+            return Some(behind);
         }
+        rest = behind;
     }
     None
 }
 
-/// Whether these lines, separated by ` / `, stand in a text in their order, with other lines between them or not.
-pub fn stands_in(short: &str, text: &[u8]) -> bool {
-    let mut rest = text;
-    let mut wanted = short;
-    for _ in 0..short.len() {
-        match wanted.split_once(" / ") {
-            Some((line, behind)) => {
-                match behind_line(line.as_bytes(), rest) {
-                    Some(after) => rest = after,
-                    None => return false,
-                }
-                wanted = behind;
-            }
-            None => break,
+/// Whether these lines stand in a text in their order, with other lines between them or not.
+pub fn stands_in(wanted: &[u8], text: &[u8]) -> bool {
+    let (mut wanted, mut rest) = (wanted, text);
+    for _ in 0..wanted.len() {
+        let Some((line, others)) = first_line(wanted) else {
+            break;
+        };
+        match behind(line, rest) {
+            Some(after) => rest = after,
+            None => return false,
         }
+        wanted = others;
     }
-    behind_line(wanted.as_bytes(), rest).is_some()
+    true
 }
 
 /// How many lines of a text begin with these words.
@@ -95,4 +96,15 @@ pub fn count_of(front: &[u8], text: &[u8]) -> u64 {
         }
     }
     count
+}
+
+/// The last line of a text that begins with these words, without them.
+pub fn last_of<'a>(front: &[u8], text: &'a [u8]) -> &'a [u8] {
+    let mut last: &[u8] = &[];
+    for line in text.split(|b| *b == b'\n') {
+        if let Some(rest) = line.strip_prefix(front) {
+            last = rest;
+        }
+    }
+    last
 }

@@ -1,6 +1,5 @@
-use Rattle.std.proofs.Common.{◌≡◌, ◌<◌, min, IsTrue, Some, None, length, get_or, ap, sym, ◌∙◌, subst, arith}
+use Rattle.std.proofs.Common.{◌≡◌, ◌<◌, min, IsTrue, length, get_or, ap, sym, ◌∙◌, subst, arith}
 use Rattle.std.proofs.lemmas.List.{length-map}
-use Rattle.entry_log.specs.Log.{Log}
 use Rattle.entry_log.specs.Shape.{entry_shape}
 use Rattle.member_disk.specs.Kept.{Kept}
 use Rattle.cluster_tool.specs.Compared.{differing, longer}

@@ -1,6 +1,5 @@
 use Rattle.std.proofs.Common.{Err, ap, sym, ◌∙◌, subst}
 use Rattle.recording_log.specs.Once.{holds_not_wrong}
-use Rattle.cluster_tool.specs.declared.status.ToolStatus.{ToolStatus}
 use Rattle.cluster_tool.specs.Disks.{EndsFor}
 use Rattle.cluster_tool.proofs.Ending.{quiet, ends_unread}
 use Rattle.cluster_tool.proofs.recorded.list.Goals as goal
