@@ -1,8 +1,8 @@
 // The packets that a member answers a query with.
-ghost use Rattle.std.specs.Prelude.{◌≡◌, ◌<◌, ◌≤◌, ◌^◌, ◌≤ℤ◌, All, IfOk, IfSome, length, pos};
+ghost use Rattle.std.specs.Prelude.{◌≡◌, ◌<◌, ◌≤◌, ◌^◌, ◌≤ℤ◌, ◌↔◌, All, IfOk, IfSome, Ok, None, length, pos};
 ghost use Rattle.snapshot_store.specs.Snapshots.{ArePieces};
 ghost use Rattle.cluster_backup.specs.Spelling.{spelling_of};
-ghost use Rattle.cluster_backup.specs.Giving.{IsEvent};
+ghost use Rattle.cluster_backup.specs.Giving.{IsEvent, FitsPacket};
 ghost use Rattle.cluster_backup.specs.declared.packet.BackupPacket.{BackupPacket};
 
 use crate::encode::encode_backup;
@@ -28,8 +28,8 @@ pub fn entries_packet(alloc: Global, start: u64, events: List<Bytes>) -> Result<
     encode_backup(alloc, &packet)
 }
 
-/// The packet of the snapshot of a service, or of the module at -1. None where no packet spells it: its stamp isn't 0
-/// to 2^62, or it has 2^31 pieces or more.
+/// The packet of the snapshot of a service, or of the module at -1. None exactly where no packet spells it: its stamp
+/// isn't 0 to 2^62, or it has 2^31 pieces or more.
 #[tactic(auto, using(crate::proofs::Given::snapshot_numbered))]
 pub fn snapshot_packet(
     alloc: Global,
@@ -41,7 +41,8 @@ pub fn snapshot_packet(
     requires high { entry.term ≤ℤ pos (2 ^ 62) }
     requires position { entry.position ≤ 2 ^ 62 }
     requires pieces { ArePieces entry.pieces }
-    ensures { IfOk result (λ o. IfSome o (λ b. b ≡ spelling_of (BackupPacket.Snapshot (pos entry.recording) entry.term (pos entry.position) entry.stamp service entry.pieces))) }
+    ensures some { IfOk result (λ o. IfSome o (λ b. b ≡ spelling_of (BackupPacket.Snapshot (pos entry.recording) entry.term (pos entry.position) entry.stamp service entry.pieces))) }
+    ensures none { result ≡ Ok None ↔ (FitsPacket entry.stamp entry.pieces → ⊥) }
 {
     if entry.stamp < 0
         || entry.stamp > NUMBER_LIMIT as i64

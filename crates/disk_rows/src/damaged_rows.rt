@@ -147,7 +147,7 @@ const ROWS: [(Wrong, u32, u64); 39] = [
     (Wrong::Byte(2, 102, 2), 2, 102),
     (Wrong::Byte(2, 104, 0x61), 2, 104),
     (Wrong::Byte(2, 40, 1), 2, 136),
-    (Wrong::Byte(2, 144, 0x61), 2, 144),
+    (Wrong::Byte(2, 151, 0x80), 2, 144),
     (Wrong::Byte(2, 160, 1), 2, 160),
     (Wrong::Byte(2, 170, 1), 2, 170),
     // The snapshots: a length that isn't all there, and a piece that isn't strict.
