@@ -1,5 +1,5 @@
 -- How a run ends.
-use Rattle.std.specs.Prelude.{◌≡◌, ℕ, Bool, false, List, Option, Some, None, Result, Ok, Err}
+use Rattle.std.specs.Prelude.{◌≡◌, ℕ, Bool, false, List, Option, Some, None}
 use Rattle.cl_base.specs.Disk.{DiskState}
 use Rattle.plan.specs.declared.words.Plan.{Plan}
 use Rattle.plan.specs.declared.words.Plan.TheVariants as plans
@@ -10,12 +10,7 @@ use Rattle.run_start.specs.Needed.{has_backup, disks_of}
 use Rattle.run_start.specs.Reading.{AreOrders, IsUnread, IsChecked}
 use Rattle.run_start.specs.Status.{IsOrGivesUp}
 use Rattle.run_start.specs.declared.status.Status.{Status}
-use Rattle.run_start.specs.declared.status.Status.TheVariants.{Done, Usage, WriteFault, FewDisks, Used, DiskFault, NoMemory}
-
--- how a step ends that gives up for want of memory alone
-abbrev pub or_no_memory : {E : Type 0} → Result Status E → Status
-or_no_memory (Ok s) = s
-or_no_memory (Err e) = NoMemory
+use Rattle.run_start.specs.declared.status.Status.TheVariants.{Done, Usage, WriteFault, FewDisks, Used, DiskFault}
 
 -- how a run of these orders on these disks ends
 abbrev pub Ends : {D : Type 0} → (D → Bool) → (D → DiskState) → (D → ℕ) → List Order → List D → List D → Status → Type 0

@@ -1,15 +1,17 @@
 // The disks of a run: taken, given back.
 ghost use Rattle.std.specs.Prelude.{◌≤◌};
 
+use crate::cluster::Cluster;
 use cl_base::{Disk, NoMemory};
 use run_backup::BackupNode;
-use run_seats::{MemberId, Seat};
+use run_seats::{MemberId, Seat, Site};
 use std::alloc::Global;
+use std::mem;
 use std::sync::Wait;
 use std::thread::Threads;
 
 /// A seat for each of the first disks, which are taken out of the list.
-pub(crate) fn seated<D: Disk + Drop>(
+fn seated<D: Disk + Drop>(
     alloc: Global,
     disks: &mut Vec<D>,
     members: u8,
@@ -31,7 +33,7 @@ pub(crate) fn seated<D: Disk + Drop>(
 }
 
 /// The backup on the first of the disks that are left, where the run has one.
-pub(crate) fn backup_on<D: Disk + Drop>(
+fn backup_on<D: Disk + Drop>(
     alloc: Global,
     disks: &mut Vec<D>,
     has_backup: bool,
@@ -54,7 +56,7 @@ fn put_back<D: Disk + Drop>(disks: &mut Vec<D>, index: usize, disk: D) -> Result
 }
 
 /// The disks come back to the front of the list, in order: the members', and the backup's.
-pub(crate) fn give_back<R: Threads + Wait + Copy + Send + Sync + 'static, D: Disk + Drop>(
+fn give_back<R: Threads + Wait + Copy + Send + Sync + 'static, D: Disk + Drop>(
     rt: &R,
     seats: Vec<Seat<D>>,
     backup: Option<BackupNode<D>>,
@@ -69,4 +71,27 @@ pub(crate) fn give_back<R: Threads + Wait + Copy + Send + Sync + 'static, D: Dis
         Some(node) => put_back(disks, members, node.into_disk()?),
         None => Ok(()),
     }
+}
+
+/// The members of a run, and its backup where it has one, each on a disk that is taken out of the list.
+pub(crate) fn gather<D: Disk + Drop>(
+    site: Site,
+    disks: &mut Vec<D>,
+    has_backup: bool,
+) -> Result<Cluster<D>, NoMemory> {
+    let alloc = site.alloc;
+    let seats = seated(alloc, disks, site.members)?;
+    let backup = backup_on(alloc, disks, has_backup)?;
+    Cluster::new(site, seats, backup)
+}
+
+/// The run is over, and its disks come back.
+pub(crate) fn dissolve<R: Threads + Wait + Copy + Send + Sync + 'static, D: Disk + Drop>(
+    rt: &R,
+    mut cluster: Cluster<D>,
+    disks: &mut Vec<D>,
+) -> Result<(), NoMemory> {
+    let seats = mem::replace(&mut cluster.seats, Vec::new(cluster.site.alloc));
+    let backup = cluster.backup.take();
+    give_back(rt, seats, backup, disks)
 }

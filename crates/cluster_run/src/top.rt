@@ -15,10 +15,10 @@ ghost use Rattle.run_start.specs.Disks.{RoseAt, IsUsedAt};
 ghost use Rattle.run_start.specs.Needed.{disks_of as disks_in, has_backup as has_backup_in};
 ghost use Rattle.run_start.specs.Reading.{IsFaulty};
 ghost use Rattle.run_listing.specs.Sinks.{Writes};
-ghost use Rattle.cluster_run.specs.Ends.{IsRun, IsAnswered, Ends, or_no_memory};
+ghost use Rattle.cluster_run.specs.Ends.{IsRun, IsAnswered, Ends};
 
 use crate::cluster::Cluster;
-use crate::disks::{backup_on, give_back, seated};
+use crate::disks::{dissolve, gather};
 use cl_base::{Bytes, Disk, List, NoMemory, Sink, Source, Trouble};
 use echo_run::{echoed, headline};
 use plan::{Plan, WordsFault, plan_words};
@@ -28,7 +28,6 @@ use run_start::{
 };
 use scenario::Order;
 use std::alloc::Global;
-use std::mem;
 use std::sync::Wait;
 use std::thread::Threads;
 
@@ -78,34 +77,40 @@ fn run_members<R: Threads + Wait + Copy + Send + Sync + 'static, O: Sink, D: Dis
     cluster.conclude(sink, task.made)
 }
 
+/// The run of a task on its members, and how it ended. The disks come back.
+#[tactic(auto, using(crate::proofs::Leaving::leaves_written, crate::proofs::Leaving::leaves_memory))]
+fn run_cluster<R: Threads + Wait + Copy + Send + Sync + 'static, O: Sink, D: Disk + Drop>(
+    rt: &R,
+    sink: &mut O,
+    disks: &mut Vec<D>,
+    mut cluster: Cluster<D>,
+    task: &Task,
+) -> Status
+    ensures ends { IsOrGivesUp result Status.Done }
+    ensures leaves { Leaves O.tells O.held O.fault_count sink.old sink.new result }
+{
+    let ran = run_members(rt, sink, &mut cluster, task);
+    match dissolve(rt, cluster, disks) {
+        Ok(()) => Status::Done.after(ran),
+        Err(NoMemory) => Status::NoMemory,
+    }
+}
+
 /// The run of a task on formatted disks, which come back.
+#[tactic(auto, using(crate::proofs::Leaving::leaves_alone))]
 fn run_on<R: Threads + Wait + Copy + Send + Sync + 'static, O: Sink, D: Disk + Drop>(
     rt: &R,
     sink: &mut O,
     disks: &mut Vec<D>,
     site: Site,
-    task: Task,
-) -> Result<Status, NoMemory>
-    ensures ends { IsOrGivesUp (or_no_memory result) Status.Done }
-    ensures leaves { Leaves O.tells O.held O.fault_count sink.old sink.new (or_no_memory result) }
+    task: &Task,
+) -> Status
+    ensures ends { IsOrGivesUp result Status.Done }
+    ensures leaves { Leaves O.tells O.held O.fault_count sink.old sink.new result }
 {
-    let alloc = site.alloc;
-    let seats = seated(alloc, disks, site.members)?;
-    let backup = backup_on(alloc, disks, has_backup(task.orders.as_slice()))?;
-    let mut cluster = Cluster::new(site, seats, backup)?;
-    let ran = run_members(rt, sink, &mut cluster, &task);
-    let seats = mem::replace(&mut cluster.seats, Vec::new(alloc));
-    let backup = cluster.backup.take();
-    match ran {
-        Ok(()) => {
-            give_back(rt, seats, backup, disks)?;
-            Ok(Status::Done)
-        }
-        Err(Trouble::Failed) => {
-            give_back(rt, seats, backup, disks)?;
-            Ok(Status::WriteFault)
-        }
-        Err(Trouble::NoMemory) => Err(NoMemory),
+    match gather(site, disks, has_backup(task.orders.as_slice())) {
+        Ok(cluster) => run_cluster(rt, sink, disks, cluster, task),
+        Err(NoMemory) => Status::NoMemory,
     }
 }
 
@@ -134,10 +139,7 @@ fn run_begun<R: Threads + Wait + Copy + Send + Sync + 'static, O: Sink, D: Disk 
 {
     match text_of(site.alloc, &task) {
         Ok(Some(text)) => Status::given(sink, text.as_slice()),
-        Ok(None) => match run_on(rt, sink, disks, site, task) {
-            Ok(status) => status,
-            Err(NoMemory) => Status::NoMemory,
-        },
+        Ok(None) => run_on(rt, sink, disks, site, &task),
         Err(NoMemory) => Status::NoMemory,
     }
 }
