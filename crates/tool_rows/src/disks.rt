@@ -1,6 +1,6 @@
 // A call of the tool on disks with files that are known.
 use crate::files::File;
-use cl_base::{Disk, MemSink, Sink};
+use cl_base::{Disk, MemSink, Sink, Trouble};
 use cl_memdisk::MemDisk;
 use cluster_tool::{ToolStatus, takes_disks, tool_main};
 use std::alloc::Global;
@@ -62,6 +62,12 @@ impl Failing {
     }
 }
 
+/// Puts bytes behind those of a file.
+fn put_behind<D: Disk>(disk: &mut D, file: u32, bytes: &[u8]) -> Result<(), Trouble> {
+    let end = disk.len(file)?;
+    disk.write_at(file, end, bytes)
+}
+
 /// A disk with these files, each piece of which is put there by two calls. Of the calls after these one fails, and each
 /// that would change a file.
 fn disk_of(alloc: Global, files: &[File], call: u64) -> Result<MemDisk, Fail> {
@@ -73,8 +79,7 @@ fn disk_of(alloc: Global, files: &[File], call: u64) -> Result<MemDisk, Fail> {
         for piece in *pieces {
             bytes.extend_from_slice(hex::decode(alloc, *piece)?.as_slice())?;
         }
-        let end = disk.len(*number)?;
-        disk.write_at(*number, end, bytes.as_slice())?;
+        put_behind(&mut disk, *number, bytes.as_slice())?;
     }
     disk.fuse(0);
     Ok(disk)
