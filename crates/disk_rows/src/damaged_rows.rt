@@ -57,11 +57,11 @@ enum Wrong {
 
 /// So many bytes of a file, with zeros past its end.
 fn with_length(alloc: Global, bytes: &[u8], len: usize) -> Option<Vec<u8>> {
-    let mut out = bytes.to_vec(alloc).ok()?;
-    while out.len() < len {
-        out.push(0).ok()?;
+    let mut out = Vec::new(alloc);
+    for at in 0..len {
+        let byte = if at < bytes.len() { bytes[at] } else { 0 };
+        out.push(byte).ok()?;
     }
-    out.truncate(len);
     Some(out)
 }
 
@@ -249,7 +249,7 @@ fn nearly_full(alloc: Global) -> Option<MemDisk> {
 }
 
 /// Writes bytes at a place of the first segment, which has that many at least.
-fn write_segment(disk: &mut MemDisk, at: u64, bytes: &[u8]) -> Option<()> {
+fn write_segment<D: Disk>(disk: &mut D, at: u64, bytes: &[u8]) -> Option<()> {
     match disk.len(2) {
         Ok(len) if at <= len => disk.write_at(2, at, bytes).ok(),
         _ => None,

@@ -19,5 +19,5 @@ append-requires-clause-events c = one_event c.args.entry c.requires
 
 pub append-requires-clause-rises : goal.append-requires-clause-rises
 append-requires-clause-rises c =
-    let is = c.last_term-last.ensures ∙ ap (λ (s : Shape). last_term_of s) c.index.ensures.index ∙ last_term_from-shape_of (negsuc 0) _ in
-    (omega (arith, ints, is, c.if-last-gt-term.false), tt)
+    let is = c.last_term-last.ensures ∙ ap (λ (s : Shape). last_term_of s) c.index.ensures.index ∙ last_term_from-shape_of (negsuc 0) c.args.member.kept.log in
+    (omega (arith, ints, is, c.if-last-term.false), tt)
