@@ -1,5 +1,5 @@
 -- How counts of faults move.
-use Rattle.std.specs.Prelude.{ℕ, ◌+◌, ◌-◌, ◌^◌, ◌≤◌, min, Result, IsErrOf, IsErr}
+use Rattle.std.specs.Prelude.{◌≡◌, ℕ, ◌+◌, ◌-◌, ◌^◌, ◌≤◌, min, Result, IsErrOf, IsErr, IsOk}
 use Rattle.cl_base.specs.declared.fault.Trouble.{Trouble}
 use Rattle.cl_base.specs.declared.fault.Trouble.TheVariants.{Failed}
 
@@ -16,3 +16,8 @@ pub record HasCause {T : Type 0} (old new : ℕ) (result : Result T Trouble) : T
 pub record HasOnlyCause {T E : Type 0} (old new : ℕ) (result : Result T E) : Type 0 where
   pub later : old ≤ new
   pub failed : IsErr result → Rose old new
+
+-- a call that is done raises the count by nothing, and one that isn't by one at most
+pub record RaisesOneAtMost {T E : Type 0} (old new : ℕ) (result : Result T E) : Type 0 where
+  pub done : IsOk result → new ≡ old
+  pub most : new ≤ old + 1

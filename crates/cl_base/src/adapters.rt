@@ -1,5 +1,7 @@
 // Sources and sinks over std's readers and writers. They tell nothing of what passes.
-ghost use Rattle.std.specs.Prelude.{◌≡◌, false, []};
+ghost use Rattle.std.specs.Prelude.{◌≡◌, ◌<◌, ◌≤◌, ◌++◌, ℕ, List, false, [], IsTrue, IfOk, OnErr, length, take};
+ghost use Rattle.cl_base.specs.Counts.{HasCause, HasOnlyCause, RaisesOneAtMost};
+ghost use Rattle.cl_base.specs.Stream.{ReadGives};
 
 use crate::{Failed, Sink, Source, Trouble};
 use std::io::{ErrorKind, Read, Write};
@@ -32,7 +34,14 @@ impl<R: Read> Source for ReadSource<R> {
     }
 
     /// Every error of the reader is a fault, an interrupted read too.
-    fn read(&mut self, buf: &mut [u8]) -> Result<usize, Failed> {
+    fn read(&mut self, buf: &mut [u8]) -> Result<usize, Failed>
+        ensures cause { HasOnlyCause self.old.faults self.new.faults result }
+        ensures tells { false ≡ false }
+        ensures within { IfOk result (λ n. n ≤ length buf.old) }
+        ensures told { IsTrue false → IfOk result (ReadGives [] [] buf.old buf.new) }
+        ensures stays { IsTrue false → OnErr result (◌≡◌ {A = List ℕ} [] []) }
+        ensures count { RaisesOneAtMost self.old.faults self.new.faults result }
+    {
         match self.reader.read(buf) {
             Ok(n) => Ok(n),
             Err(_) => {
@@ -71,7 +80,15 @@ impl<W: Write> Sink for WriteSink<W> {
     }
 
     /// A write that takes nothing of a piece that isn't empty is a fault, as is every error but out of memory.
-    fn write(&mut self, bytes: &[u8]) -> Result<usize, Trouble> {
+    fn write(&mut self, bytes: &[u8]) -> Result<usize, Trouble>
+        ensures cause { HasCause self.old.faults self.new.faults result }
+        ensures tells { false ≡ false }
+        ensures within { IfOk result (λ n. n ≤ length bytes.now) }
+        ensures some { IfOk result (λ n. 0 < length bytes.now → 0 < n) }
+        ensures told { IsTrue false → IfOk result (λ n. [] ≡ [] ++ take n bytes.now) }
+        ensures stays { IsTrue false → OnErr result (◌≡◌ {A = List ℕ} [] []) }
+        ensures count { RaisesOneAtMost self.old.faults self.new.faults result }
+    {
         match self.writer.write(bytes) {
             Ok(n) if n > 0 || bytes.is_empty() => Ok(n),
             Err(e) if e.kind() == ErrorKind::OutOfMemory => Err(Trouble::NoMemory),

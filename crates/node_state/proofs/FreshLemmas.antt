@@ -3,7 +3,7 @@ use Rattle.std.proofs.Common.{◌≡◌, ℕ, ◌+◌, List, [], ◌∷◌, ◌+
 use Rattle.std.proofs.lemmas.Int.{ints}
 use Rattle.std.proofs.lemmas.List.{append-nil, drop_all}
 use Rattle.cl_base.specs.Disk.{FileState, settled_file, overwritten}
-use Rattle.node_state.specs.Fields.{u64_at, u32_at}
+use Rattle.wire_prims.specs.Fields.{u64_at, u32_at, i64_at}
 use Rattle.node_state.specs.Node.{Tells, fresh, IsFresh}
 
 abbrev pub fresh_bytes : List ℕ
@@ -11,7 +11,7 @@ fresh_bytes =
     255 ∷ 255 ∷ 255 ∷ 255 ∷ 255 ∷ 255 ∷ 255 ∷ 255 ∷ 255 ∷ 255 ∷ 255 ∷ 255 ∷ 255 ∷ 255 ∷ 255 ∷ 255 ∷ 0 ∷ 2 ∷ 0 ∷ 0 ∷ 255 ∷ 255 ∷ 255 ∷ 255 ∷ 255 ∷ 255 ∷ 255 ∷ 255 ∷ 0 ∷ 0 ∷ 0 ∷ 0 ∷ []
 
 pub fresh_tells : Tells fresh fresh_bytes
-unfolding u64_at u32_at
+unfolding u64_at u32_at i64_at
 fresh_tells = (record { size = refl; slot = refl; term = refl; voted = refl; low = omega (arith, ints); high = omega (arith, ints) }, refl)
 
 front : (bytes : List ℕ) → overwritten 0 bytes [] ≡ bytes

@@ -1,7 +1,7 @@
 -- A raise, of its two parts.
 use Rattle.std.specs.Prelude.{◌&&◌, if◌then◌else◌, OnOk}
 use Rattle.std.specs.Int.{w64, cast_signed}
-use Rattle.std.proofs.Common.{◌≡◌, ◌≢◌, inl, inr, ℕ, ◌+◌, ◌-◌, ◌*◌, ◌<◌, ◌≤◌, ◌^◌, ◌==◌, ◌%◌, List, [], ◌∷◌, length, Result, Ok, Err, refl, sym, ◌∙◌, ap, subst, arith}
+use Rattle.std.proofs.Common.{◌≡◌, ◌≢◌, inl, inr, ℕ, ◌+◌, ◌-◌, ◌*◌, ◌<◌, ◌≤◌, ◌^◌, ◌==◌, ◌%◌, List, [], ◌∷◌, length, Result, Ok, Err, sym, ◌∙◌, ap, subst, arith}
 use Rattle.std.proofs.lemmas.Bool.{cases_eq, eq-eqb, ne_eqb}
 use Rattle.cl_base.specs.Disk.{FileState, DiskState, ChangesFile, IsImage, settled_file, overwritten, left_by}
 use Rattle.cl_base.specs.Images.{length-overwritten, overwritten_other}
@@ -10,10 +10,10 @@ use Rattle.cl_base.specs.Fuse.{Passed, FuseEnds, Early, Later, ends_weaker, fuse
 use Rattle.cl_base.specs.declared.disk.Choice.{Choice}
 use Rattle.cl_base.specs.declared.fault.Trouble.{Trouble}
 use Rattle.cl_base.specs.declared.fault.Trouble.TheVariants.{Failed}
-use Rattle.node_state.specs.Fields.{u64_at, i64_at, u32_at, u64_bytes, u32_bytes}
+use Rattle.wire_prims.specs.Fields.{u64_at, i64_at, u32_at, le32, le64, length-le32, length-le64, u64_at-same, u64_at-overwritten, u32_at-overwritten}
 use Rattle.node_state.specs.Node.{Node, Tells, member_of, names_slot}
 use Rattle.node_state.specs.Steps.{AllTell, IsReady, IsRaise, staged, selected}
-use Rattle.node_state.proofs.FieldLemmas.{apart, u64_at-same, u64_at-written, u32_at-written, get_or-written_one}
+use Rattle.node_state.proofs.FieldLemmas.{apart, get_or-written_one}
 use Rattle.cl_base.specs.Torn.{Torn}
 use Rattle.node_state.proofs.NodeLemmas.{selects_after, torn_tells, spare_term, spare_member}
 
@@ -24,17 +24,18 @@ on_ok T (Err e) P Q so on = on
 module _ (slot bits member : ℕ) (before after : Node) (is : IsRaise slot bits member before after) (below : slot < 2) where
   -- what was staged is ready
   pub staged_ready : (reads : List ℕ) → bits < 2 ^ 64 → member < 2 ^ 32 → length reads ≡ 32 → Tells before (staged slot bits member reads) → IsReady before after (staged slot bits member reads)
+  unfolding i64_at
   staged_ready reads fits small size tells =
-      let one = overwritten (8 * slot) (u64_bytes bits) reads in
-      let size_one : length one ≡ 32 = omega (arith, length-overwritten (8 * slot) (u64_bytes bits) reads (omega (arith, size)), size) in
+      let one = overwritten (8 * slot) (le64 bits) reads in
+      let size_one : length one ≡ 32 = omega (arith, length-overwritten (8 * slot) (le64 bits) reads (omega (arith, size)), length-le64 bits, size) in
       let kept : u64_at (8 * slot) (staged slot bits member reads) ≡ u64_at (8 * slot) one =
-      u64_at-same (8 * slot) (staged slot bits member reads) one (λ i from upto. overwritten_other (20 + 4 * slot) (u32_bytes member) one i (omega (arith, size_one)) (inl (omega arith))) in
-      let written : u64_at (8 * slot) one ≡ bits = u64_at-written (8 * slot) bits reads fits (omega (arith, size)) in
+      u64_at-same (8 * slot) (staged slot bits member reads) one (λ i from upto. overwritten_other (20 + 4 * slot) (le32 member) one i (omega (arith, size_one)) (inl (omega arith))) in
+      let written : u64_at (8 * slot) one ≡ bits = u64_at-overwritten (8 * slot) bits reads fits (omega (arith, size)) in
       record {
         tells = tells;
         slot = is.to ∙ omega (arith, is.from);
         term = ap (λ n. i64_at (8 * n) (staged slot bits member reads)) is.to ∙ ap (cast_signed w64) (kept ∙ written) ∙ is.term;
-        voted = ap (λ n. member_of (u32_at (20 + 4 * n) (staged slot bits member reads))) is.to ∙ ap member_of (u32_at-written (20 + 4 * slot) member one small (omega (arith, size_one))) ∙ sym is.voted;
+        voted = ap (λ n. member_of (u32_at (20 + 4 * n) (staged slot bits member reads))) is.to ∙ ap member_of (u32_at-overwritten (20 + 4 * slot) member one small (omega (arith, size_one))) ∙ sym is.voted;
         low = is.low;
         high = is.high;
       }
@@ -91,14 +92,14 @@ module _ (slot bits member : ℕ) (before after : Node) (is : IsRaise slot bits 
       record { no_shorter = omega (arith, len); no_longer = omega (arith, len); same = λ i within out. overwritten_other at bytes file i le out }
 
   abbrev one : List ℕ
-  one = overwritten (8 * slot) (u64_bytes bits) reads
+  one = overwritten (8 * slot) (le64 bits) reads
 
   one_tells : Tells before one
-  one_tells = torn_tells before (8 * slot) 8 reads one (spare_term before.slot slot (u64_bytes bits) below is.from refl) (torn_by (8 * slot) (u64_bytes bits) reads (let size = tells.0.size in omega arith)) tells
+  one_tells = torn_tells before (8 * slot) (length (le64 bits)) reads one (spare_term before.slot slot (le64 bits) below is.from (length-le64 bits)) (torn_by (8 * slot) (le64 bits) reads (let size = tells.0.size in omega arith)) tells
 
   pub staged_tells : Tells before (staged slot bits member reads)
-  staged_tells = torn_tells before (20 + 4 * slot) 4 one (staged slot bits member reads) (spare_member before.slot slot (u32_bytes member) below is.from refl)
-      (torn_by (20 + 4 * slot) (u32_bytes member) one (let size = one_tells.0.size in omega arith)) one_tells
+  staged_tells = torn_tells before (20 + 4 * slot) (length (le32 member)) one (staged slot bits member reads) (spare_member before.slot slot (le32 member) below is.from (length-le32 member))
+      (torn_by (20 + 4 * slot) (le32 member) one (let size = one_tells.0.size in omega arith)) one_tells
 
   pub raised_tells : bits < 2 ^ 64 → member < 2 ^ 32 → Tells after (selected slot (staged slot bits member reads))
   raised_tells fits small =

@@ -4,7 +4,7 @@ use Rattle.cl_base.specs.Disk.{FileState, DiskState, IsImage, overwritten, settl
 use Rattle.cl_base.specs.Every.{EveryImage, FileIs}
 use Rattle.cl_base.specs.declared.disk.Choice.{Choice}
 use Rattle.cl_base.specs.declared.disk.Choice.TheVariants.{Drop, Keep, Fill}
-use Rattle.node_state.specs.Fields.{i64_at, u32_at}
+use Rattle.wire_prims.specs.Fields.{i64_at, u32_at}
 
 -- the slot that counts, and what stands in it
 pub record Node : Type 0 where

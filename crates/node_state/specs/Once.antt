@@ -1,7 +1,7 @@
 -- A file stands for at most one node, and is wrong nowhere where it stands for one.
 use Rattle.std.specs.Prelude.{◌≡◌, ℕ, ◌*◌, List}
 use Rattle.std.proofs.Common.{inl, inr, sym, ◌∙◌, ap, subst, arith}
-use Rattle.node_state.specs.Fields.{i64_at}
+use Rattle.wire_prims.specs.Fields.{i64_at}
 use Rattle.node_state.specs.Node.{Node, StandsFor, IsWrongAt, IsTerm, voted_in}
 
 pub stands_once : (bytes : List ℕ) (a b : Node) → StandsFor bytes a → StandsFor bytes b → a ≡ b

@@ -7,12 +7,12 @@ ghost use Rattle.cl_base.specs.Looks.{Looks, Same};
 ghost use Rattle.cl_base.specs.Faults.{HasMountCause};
 ghost use Rattle.cl_base.specs.declared.disk.Choice.{Choice};
 ghost use Rattle.node_state.specs.Node.{Node, Tells, BeforeOrAfter, names_slot, member_of, StandsFor, IsWrongAt, IsTerm, AllOld, AllStand, IsSettled, IsVersionTwo, Stays, LeavesNode, mount_calls, migrated};
-ghost use Rattle.node_state.specs.Fields.{u32_at};
+ghost use Rattle.wire_prims.specs.Fields.{u32_at};
 ghost use Rattle.node_state.specs.Steps.{AllTell, EachTells, IsReady, IsRaise, RaiseLeft, staged, selected};
 
-use crate::fields::{get_i64, get_u32};
 use cl_base::{Disk, MemberFault, Trouble, read_some, write_through};
 use std::marker::Model;
+use wire_prims::{get_i64, get_u32};
 
 /// The candidate term and the member voted for in it, as the first file of a member tells them.
 #[derive(Drop)]
@@ -34,6 +34,7 @@ impl Model for NodeState {
 }
 
 /// Has a slot's fields on the disk.
+#[tactic(auto, unfolding(wire_prims::specs::Fields::le32, wire_prims::specs::Fields::le64))]
 fn stage<D: Disk>(disk: &mut D, slot: usize, bits: u64, member: u32) -> Result<(), Trouble>
     requires slot { slot < 2 }
     requires size { IsTrue (D.tells disk.old) → length ((D.state disk.old).files 0).reads ≡ 32 }
@@ -78,6 +79,7 @@ fn select<D: Disk>(disk: &mut D, slot: usize) -> Result<(), Trouble>
 }
 
 /// Raises what the file tells.
+#[tactic(auto, unfolding(wire_prims::specs::Fields::le32, wire_prims::specs::Fields::le64))]
 fn raise_file<D: Disk>(disk: &mut D, slot: usize, bits: u64, member: u32) -> Result<(), Trouble>
     requires slot { slot < 2 }
     requires size { IsTrue (D.tells disk.old) → length ((D.state disk.old).files 0).reads ≡ 32 }

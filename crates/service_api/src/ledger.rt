@@ -3,14 +3,14 @@ ghost use Rattle.std.specs.Prelude.{◌≡◌, ◌++◌, OnOk, OnErr};
 ghost use Rattle.service_api.specs.Ledger.{Books, added, entered, spelled_books, restored_books, IsKept};
 ghost use Rattle.service_api.specs.Outputs.{BeginsWith};
 
-use crate::number::{add_u64, get_u64, spell_u64};
+use crate::number::{add_u64, spell_u64};
 use crate::{Output, Outputs, Service};
 use cl_base::{Bytes, NoMemory};
 use sbe_events::Event;
 use sbe_local::Command;
 use std::alloc::Global;
 use std::marker::Model;
-use wire_prims::{Bad, BadCause, DecodeFault};
+use wire_prims::{Bad, BadCause, DecodeFault, get_u64};
 
 /// The bytes of an amount, and of each number of the records.
 const NUMBER_BYTES: usize = 8;

@@ -1,19 +1,9 @@
 // Numbers in payloads and records, the lowest byte first.
-ghost use Rattle.std.specs.Prelude.{◌≡◌, ◌+◌, ◌≤◌, ◌++◌, length, IfOk, OnOk};
-ghost use Rattle.wire_prims.specs.Fields.{u64_at, le32, le64, signed64};
+ghost use Rattle.std.specs.Prelude.{◌≡◌, ◌++◌, IfOk, OnOk};
+ghost use Rattle.wire_prims.specs.Fields.{le32, le64, signed64};
 
 use cl_base::{Bytes, NoMemory};
 use std::alloc::Global;
-
-/// The number of eight bytes at a place.
-#[tactic(auto, unfolding(wire_prims::specs::Fields::u64_at))]
-pub fn get_u64(bytes: &[u8], at: usize) -> u64
-    requires { at + 8 ≤ length bytes.now }
-    ensures { result ≡ u64_at at bytes.now }
-{
-    let b = &bytes[at..];
-    u64::from_le_bytes([b[0], b[1], b[2], b[3], b[4], b[5], b[6], b[7]])
-}
 
 /// The eight bytes of a number.
 #[tactic(auto, unfolding(wire_prims::specs::Fields::le64))]

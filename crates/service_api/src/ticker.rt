@@ -6,7 +6,7 @@ ghost use Rattle.service_api.specs.Ticker.{Ids, asked, scheduled, has_room, rung
 ghost use Rattle.wire_prims.specs.declared.fault.Bad.{Bad};
 ghost use Rattle.service_api.specs.Outputs.{BeginsWith};
 
-use crate::number::{add_i64, add_u32, get_u64, spell_i64};
+use crate::number::{add_i64, add_u32, spell_i64};
 use crate::{Output, Outputs, Service};
 use cl_base::{Bytes, NoMemory};
 use sbe_events::Event;
@@ -14,7 +14,7 @@ use sbe_local::Command;
 use std::alloc::Global;
 use std::collections::BTreeMap;
 use std::marker::Model;
-use wire_prims::{Bad, BadCause, DecodeFault, get_i64, get_u32};
+use wire_prims::{Bad, BadCause, DecodeFault, get_i64, get_u32, get_u64};
 
 /// The most ids that a ticker keeps.
 const IDS_LIMIT: usize = 4_096;

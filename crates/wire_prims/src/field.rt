@@ -23,8 +23,9 @@ pub fn get_u32(bytes: &[u8], at: usize) -> u32
     u32::from_le_bytes([b[0], b[1], b[2], b[3]])
 }
 
+/// The number of eight bytes at a place.
 #[tactic(auto, unfolding(crate::specs::Fields::u64_at))]
-fn get_u64(bytes: &[u8], at: usize) -> u64
+pub fn get_u64(bytes: &[u8], at: usize) -> u64
     requires { at + 8 ≤ length bytes.now }
     ensures { result ≡ u64_at at bytes.now }
 {

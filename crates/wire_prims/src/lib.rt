@@ -10,7 +10,7 @@ mod strict;
 mod write;
 
 pub use fault::{Bad, BadCause, DecodeFault};
-pub use field::{get_i32, get_i64, get_u16, get_u32, put_i32, put_i64, put_u16, put_u32};
+pub use field::{get_i32, get_i64, get_u16, get_u32, get_u64, put_i32, put_i64, put_u16, put_u32};
 pub use frame::{
     FIRST_FLAGS, FrameHead, LAST_FLAGS, OPEN_GATE, WHOLE_FLAGS, read_frame, write_frame,
 };

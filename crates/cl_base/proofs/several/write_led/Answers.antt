@@ -1,12 +1,12 @@
 -- Each exit of a write behind a gate over two files.
-use Rattle.std.proofs.Common.{◌≡◌, ◌≢◌, ◌⊎◌, inl, inr, ℕ, ◌+◌, ◌-◌, ◌<◌, ◌≤◌, List, [], ◌∷◌, length, Result, Ok, Err, IsTrue, refl, sym, ◌∙◌, subst, ap, arith}
+use Rattle.std.proofs.Common.{◌≡◌, ◌≢◌, inl, inr, ℕ, ◌-◌, List, [], ◌∷◌, length, Result, Ok, Err, IsTrue, sym, ◌∙◌, subst, ap, arith}
 use Rattle.std.proofs.lemmas.Bool.{cases_eq}
-use Rattle.cl_base.specs.Disk.{FileState, DiskState, IsImage, IsImageOf, settled_file, written_file, overwritten, left_by}
-use Rattle.cl_base.specs.Images.{IsSound, length-overwritten, left_is_image}
+use Rattle.cl_base.specs.Disk.{DiskState, IsImage, IsImageOf, settled_file, written_file, overwritten, left_by}
+use Rattle.cl_base.specs.Images.{IsSound, left_is_image}
 use Rattle.cl_base.specs.Torn.{Torn}
 use Rattle.cl_base.specs.Through.{ThroughLeft}
 use Rattle.cl_base.specs.Fuse.{FuseEnds, Early, Later, ends_weaker, fuse_first, fuse_then}
-use Rattle.cl_base.specs.Gated.{GateTorn, LedImage, LedLeft, open_byte}
+use Rattle.cl_base.specs.Gated.{LedImage, LedLeft, open_byte}
 use Rattle.cl_base.specs.Runs.{DiskLaws, EachImage, ComesFrom, TornIn, TornBoth, Reached, start, went, through, whole_settled, both_none}
 use Rattle.cl_base.specs.declared.disk.Choice.{Choice}
 use Rattle.cl_base.specs.declared.fault.Trouble.{Trouble}
