@@ -124,7 +124,7 @@ admitted_room v k w actions now e admitted ready term place = record {
 }
 
 -- the entry of an order is at its index
-pub appended : (i : ℕ) (v : Values) (a b : Kept) (e : Event) (x : Entry) → HasRoom v a e → i ≡ length a.log → x.term ≡ v.election.term → x.bytes ≡ spelling_of e → IsKept a.node (a.log ++ x ∷ []) b → IsAppended i e a b
-appended i v a b e x room index term bytes kept =
+pub appended : (i : ℕ) (v : Values) (a b : Kept) (e : Event) (x : Entry) → HasRoom v a e → HasSpelling e → i ≡ length a.log → x.term ≡ v.election.term → x.bytes ≡ spelling_of e → IsKept a.node (a.log ++ x ∷ []) b → IsAppended i e a b
+appended i v a b e x room spelled index term bytes kept =
     let is : x ≡ entry_of e = entry_is e x (term ∙ sym room.term) bytes in
-    record { index = index; kept = record { node = kept.node; log = kept.log ∙ ap (λ (y : Entry). a.log ++ y ∷ []) is } }
+    record { spelled = spelled; index = index; kept = record { node = kept.node; log = kept.log ∙ ap (λ (y : Entry). a.log ++ y ∷ []) is } }
