@@ -1,4 +1,4 @@
-use Rattle.std.proofs.Common.{◌≡◌, ap, subst}
+use Rattle.std.proofs.Common.{◌≡◌, ap, subst, refl}
 use Rattle.std.specs.Prelude.{IfOk, OnErr, OnOk}
 use Rattle.entry_log.specs.Shape.{shape_of}
 use Rattle.member_disk.specs.Kept.{Kept, Held as DiskHeld}
@@ -9,6 +9,7 @@ use Rattle.consensus_agent.specs.Rows.{CutRow, RowRan, due_to}
 use Rattle.consensus_agent.proofs.Due.{duty_row}
 use Rattle.consensus_agent.proofs.Running.{values_in, kept_in, on_ok}
 use Rattle.consensus_agent.proofs.Taking.{taken_past}
+use Rattle.consensus_agent.proofs.Disking.{went_none}
 use Rattle.consensus_agent.proofs.agent.Agent.duty.Goals as goal
 
 pub returns-clause-row : goal.returns-clause-row
@@ -45,3 +46,9 @@ returns-clause-done g c =
     let same = duty_row c.args.self.now.core.values c.due.new.self.core.values c.args.self.now.disk.kept c.due.new.self.disk.kept c.as_slice.result.now c.in_ok-due.due (due_to c.args.self.now.«module» c.args.self.now.core.values.election.term c.args.now) c.args.now (ap values_in c.due.ensures.core) (ap kept_in c.due.ensures.disk) c.as_slice.ensures c.in_ok-due.ensures.due in
     subst (λ (z : Row). OnOk c.do_duty.result (Done g.D.Disk.state g.D.Disk.tells g.D.Disk.is_honest z.change c.args.self.now.disk c.do_duty.new.self.disk)) same
     (subst (λ (d : DiskHeld g.row.D.Denot). OnOk c.do_duty.result (Done g.D.Disk.state g.D.Disk.tells g.D.Disk.is_honest own.change d c.do_duty.new.self.disk)) c.due.ensures.disk c.do_duty.ensures.done)
+
+pub returns-then-not-self-clause-went : goal.returns-then-not-self-clause-went
+returns-then-not-self-clause-went g c = went_none g.D.Disk.state g.D.Disk.tells g.D.Disk.is_honest _ c.args.self.now.disk c.args.self.now.disk refl
+
+pub returns-in_err-due-clause-went : goal.returns-in_err-due-clause-went
+returns-in_err-due-clause-went g c = went_none g.D.Disk.state g.D.Disk.tells g.D.Disk.is_honest _ c.args.self.now.disk c.due.new.self.disk c.due.ensures.disk

@@ -1,4 +1,4 @@
-use Rattle.std.proofs.Common.{◌≡◌, ap, subst}
+use Rattle.std.proofs.Common.{◌≡◌, ap, subst, refl}
 use Rattle.std.specs.Prelude.{OnOk}
 use Rattle.entry_log.specs.Shape.{shape_of}
 use Rattle.consensus_core.specs.declared.row.Row.{Row}
@@ -8,6 +8,7 @@ use Rattle.consensus_agent.proofs.Running.{Gave, gave, can_run, rises, still, on
 use Rattle.consensus_agent.proofs.Sounding.{packet_runs}
 use Rattle.consensus_agent.specs.Disks.{Done, Went}
 use Rattle.consensus_agent.proofs.Taking.{row_taken}
+use Rattle.consensus_agent.proofs.Disking.{went_none}
 use Rattle.consensus_agent.proofs.agent.Agent.take_packet.Goals as goal
 
 pub finish-requires-clause-can : goal.finish-requires-clause-can
@@ -60,3 +61,6 @@ returns-clause-done g c =
     let same : own ≡ row = ap (λ xs. receives c.args.self.now.core.values xs c.args.packet.now c.args.now) c.index.ensures.index in
     let gives = gave row own c.in_ok-change.change c.on_packet.new.self same c.in_ok-change.ensures.change c.in_ok-change.ensures.values in
     subst (λ z. OnOk c.finish.result (Done g.D.Disk.state g.D.Disk.tells g.D.Disk.is_honest z c.args.self.now.disk c.finish.new.self.disk)) gives.change c.finish.ensures.done
+
+pub returns-in_err-change-clause-went : goal.returns-in_err-change-clause-went
+returns-in_err-change-clause-went g c = went_none g.D.Disk.state g.D.Disk.tells g.D.Disk.is_honest _ c.args.self.now.disk c.args.self.now.disk refl
