@@ -1,11 +1,10 @@
 -- What a change, and what is read after it, leaves of a member's disk.
-use Rattle.std.proofs.Common.{◌≡◌, ◌⊎◌, inl, inr, ℕ, zero, suc, ◌+◌, ◌≤◌, ◌==◌, Bool, true, false, IsTrue, List, [], ◌∷◌, ◌++◌, length, take, ℤ, Option, refl, sym, ap, subst, ◌∙◌, arith}
+use Rattle.std.proofs.Common.{◌≡◌, inl, ℕ, ◌+◌, ◌==◌, Bool, true, false, IsTrue, List, [], ◌∷◌, ◌++◌, length, take, ℤ, Option, refl, sym, ap, subst, ◌∙◌}
 use Rattle.std.specs.Prelude.{Result, Ok, Err, OnOk, OnErr}
 use Rattle.std.proofs.lemmas.Bool.{cond-true, cond-false, eqb-true}
 use Rattle.cl_base.specs.Disk.{DiskState, FileState, IsImage, IsImageOf}
-use Rattle.cl_base.specs.Fuse.{Passed, passes_none}
+use Rattle.cl_base.specs.Fuse.{passes_none}
 use Rattle.cl_base.specs.Looks.{Looks, Same, looks_same, same_more}
-use Rattle.cl_base.specs.Runs.{EachImage}
 use Rattle.cl_base.specs.declared.fault.MemberFault.{MemberFault}
 use Rattle.cl_base.specs.declared.fault.MemberFault.TheVariants as fault
 use Rattle.entry_log.specs.Log.{Log}
@@ -13,13 +12,13 @@ use Rattle.recording_log.specs.declared.entry.RecEntry.{RecEntry}
 use Rattle.log_segment.specs.Held.{new_term_of, new_terms}
 use Rattle.member_disk.specs.Kept.{Kept, Held as DiskHeld, EachStands, Stands}
 use Rattle.member_disk.specs.Changes.{HasMoreTerms, HaveTerms, IsAppended}
-use Rattle.member_disk.specs.CutWell.{IsCutWell, IsDurableOne, no_file, snapshots_of}
-use Rattle.member_disk.specs.Parts.{IsMade, Part, append_parts, calls_of, cut_part, cut_parts, made, raise_part}
+use Rattle.member_disk.specs.CutWell.{IsCutWell, no_file}
+use Rattle.member_disk.specs.Parts.{IsMade, Part, append_parts, cut_part, cut_parts, made, raise_part}
 use Rattle.member_disk.proofs.CutWells.{durable_same, put_first, snapshots_stay, terms_take}
 use Rattle.member_disk.proofs.Terms.{terms_from, terms_stay}
 use Rattle.consensus_core.specs.declared.change.Change.{Change}
 use Rattle.consensus_core.specs.declared.change.Change.TheVariants as changes
-use Rattle.consensus_agent.specs.Disks.{Done, HasTerms, IsRight, KeepsSets, Looked, Went, changed_kept, parts_of}
+use Rattle.consensus_agent.specs.Disks.{Done, IsRight, KeepsSets, Looked, Went, changed_kept, parts_of}
 
 -- ---- what is kept
 

@@ -1,5 +1,5 @@
 -- What is decided on an order, and what is done then.
-use Rattle.std.proofs.Common.{◌≡◌, ℕ, ℤ, Bool, true, false, List, [], ◌∷◌, ◌++◌, length, Some, None, refl, sym, ap, subst, ◌∙◌}
+use Rattle.std.proofs.Common.{◌≡◌, ℕ, ℤ, Bool, true, false, List, [], ◌∷◌, ◌++◌, Some, None, refl, sym, ap, subst, ◌∙◌}
 use Rattle.cl_base.specs.declared.entry.Entry.{Entry}
 use Rattle.entry_log.specs.Log.{Log}
 use Rattle.member_disk.specs.Kept.{Kept}
@@ -16,7 +16,7 @@ use Rattle.ingress.specs.declared.decision.Decided.TheVariants as decisions
 use Rattle.ingress.specs.declared.view.View.{View}
 use Rattle.ingress.specs.Decisions.{Admits, decided_action}
 use Rattle.ingress.proofs.Admitted.{action_admits}
-use Rattle.consensus_agent.specs.Accepted.{Decides, DecidesAction, HasMore, HasRoom, HasRoomFor, IsAppended, IsCalm, IsDecided, IsDecidedAction, IsDone, IsHeard, IsView, OnNothingNew, TookAction, TookClient}
+use Rattle.consensus_agent.specs.Accepted.{Decides, DecidesAction, HasMore, HasRoom, HasRoomFor, IsAppended, IsCalm, IsDone, IsHeard, IsView, OnNothingNew, TookAction, TookClient}
 use Rattle.consensus_agent.proofs.Views.{admitted_room}
 
 -- what was admitted has its room

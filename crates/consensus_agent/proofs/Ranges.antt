@@ -1,6 +1,6 @@
 -- What is wanted of a log lies within it, and what was read of it is what is wanted.
-use Rattle.std.proofs.Common.{◌≡◌, ℕ, zero, suc, ◌+◌, ◌-◌, ◌<◌, ◌≤◌, Bool, true, false, ◌&&◌, List, [], ◌∷◌, ◌++◌, length, get_or, take, drop, Option, Some, None, refl, sym, ap, subst, ◌∙◌, arith, if◌then◌else◌, length-drop}
-use Rattle.std.specs.Prelude.{⊤, not, nat_lt, nat_eq, is_none, slice_index_or}
+use Rattle.std.proofs.Common.{ℕ, zero, suc, ◌-◌, ◌<◌, ◌≤◌, Bool, true, false, ◌&&◌, List, [], ◌∷◌, ◌++◌, length, get_or, take, drop, Option, Some, None, arith, if◌then◌else◌, length-drop}
+use Rattle.std.specs.Prelude.{not, nat_lt, nat_eq, is_none, slice_index_or}
 use Rattle.entry_log.specs.Shape.{Shape, end_of, ends_by}
 use Rattle.entry_log.specs.Batches.{is_batch}
 use Rattle.consensus_core.specs.declared.plan.Plan.{Plan}

@@ -1,5 +1,5 @@
 -- An order that is refused isn't accepted, and leaves the disk as it is.
-use Rattle.std.proofs.Common.{◌≡◌, ◌⊎◌, inl, inr, ℕ, ◌+◌, ◌<◌, ◌≤◌, ℤ, pos, Bool, true, false, ◌&&◌, ◌||◌, List, [], ◌∷◌, ◌++◌, length, drop, Option, Some, None, refl, sym, ap, subst, ◌∙◌, arith, if◌then◌else◌}
+use Rattle.std.proofs.Common.{◌≡◌, ◌⊎◌, inl, inr, ℕ, ◌+◌, ℤ, pos, Bool, true, false, ◌&&◌, ◌||◌, List, [], ◌∷◌, ◌++◌, length, drop, Option, Some, None, refl, sym, ap, subst, ◌∙◌, arith, if◌then◌else◌}
 use Rattle.std.specs.Prelude.{⊤, not, nat_lt, nat_le, ◌==◌}
 use Rattle.std.proofs.lemmas.Bool.{eqb-true}
 use Rattle.std.proofs.lemmas.Bool.Decides.{nat_tests}
@@ -19,11 +19,11 @@ use Rattle.ingress.specs.declared.outcome.Outcome.TheVariants as outcome
 use Rattle.ingress.specs.declared.decision.Decided.{Decided}
 use Rattle.ingress.specs.declared.decision.Decided.TheVariants as decisions
 use Rattle.ingress.specs.declared.view.View.{View}
-use Rattle.ingress.specs.Outcomes.{Rows, first_row, leading_rows, naming_rows, size_rows, open_rows, action_rows, room_rows}
-use Rattle.ingress.specs.Decisions.{Admits, unless, end_of, admitted, rows_before, passed_on, decided, decided_action}
+use Rattle.ingress.specs.Outcomes.{Rows, first_row, leading_rows, action_rows, room_rows}
+use Rattle.ingress.specs.Decisions.{Admits, unless, end_of, admitted, rows_before, decided, decided_action}
 use Rattle.consensus_core.specs.declared.values.Values.{Values}
 use Rattle.consensus_core.proofs.Fitting.{choice}
-use Rattle.consensus_agent.specs.Accepted.{IsAppended, IsDecided, IsDone, Leaves, TookAction, TookClient}
+use Rattle.consensus_agent.specs.Accepted.{IsDecided, IsDone, Leaves, TookAction, TookClient}
 
 -- ---- bytes without a fault are a message
 

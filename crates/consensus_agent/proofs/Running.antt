@@ -1,8 +1,6 @@
 -- The row that the core ran is the row over the log, and what was made of it is what it says.
-use Rattle.std.proofs.Common.{◌≡◌, ◌⊎◌, inl, inr, ℕ, ◌≤◌, Bool, true, false, ◌||◌, List, refl, sym, ap, subst, ◌∙◌, arith}
+use Rattle.std.proofs.Common.{◌≡◌, ℕ, ◌≤◌, Bool, true, false, ◌||◌, List, sym, ap, subst, ◌∙◌}
 use Rattle.std.specs.Prelude.{Result, Ok, Err, OnOk}
-use Rattle.entry_log.specs.Shape.{Shape, shape_of}
-use Rattle.election.specs.declared.member.State.{State}
 use Rattle.sbe_consensus.specs.declared.packet.Outgoing.{Outgoing}
 use Rattle.member_disk.specs.Kept.{Kept, Held as DiskHeld}
 use Rattle.consensus_core.specs.declared.change.Change.{Change}
@@ -10,7 +8,7 @@ use Rattle.consensus_core.specs.declared.row.Row.{Row}
 use Rattle.consensus_core.specs.declared.values.Values.{Values}
 use Rattle.consensus_core.specs.Fit.{Held as CoreHeld, held_by}
 use Rattle.consensus_core.specs.Member.{is_ready}
-use Rattle.consensus_agent.specs.Rows.{IsKept, Made, CutRow, IsSpoken, RowRan}
+use Rattle.consensus_agent.specs.Rows.{Made, CutRow, IsSpoken, RowRan}
 use Rattle.consensus_agent.specs.Sound.{CanRun, ends_phase}
 use Rattle.consensus_agent.proofs.Commits.{Moves, row_rises, row_still}
 

@@ -1,6 +1,5 @@
 -- What is sent of a row, with what was read of the log.
 use Rattle.std.proofs.Common.{◌≡◌, ℕ, Bool, IsTrue, List, length, sym, ap, ◌∙◌, subst}
-use Rattle.std.specs.Prelude.{Result, IfOk}
 use Rattle.cl_base.specs.declared.entry.Entry.{Entry}
 use Rattle.entry_log.specs.Log.{Log}
 use Rattle.entry_log.specs.Shape.{Shape, shape_of}

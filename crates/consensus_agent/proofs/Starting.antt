@@ -1,7 +1,6 @@
 -- A module and a disk through a start.
-use Rattle.std.proofs.Common.{◌≡◌, ℕ, List, [], ◌∷◌, ◌++◌, None, refl, sym, ap, ◌∙◌}
+use Rattle.std.proofs.Common.{◌≡◌, ℕ, List, [], ◌∷◌, ◌++◌, None, sym, ap, ◌∙◌}
 use Rattle.cl_base.specs.declared.entry.Entry.{Entry}
-use Rattle.entry_log.specs.Log.{Log}
 use Rattle.sbe_events.specs.declared.event.Event.{Event}
 use Rattle.module_state.specs.Entries.{events_in}
 use Rattle.module_state.specs.Module.{Module}

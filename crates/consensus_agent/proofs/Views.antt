@@ -1,5 +1,5 @@
 -- What an order looks at, and the entry that it puts behind the log.
-use Rattle.std.proofs.Common.{◌≡◌, ℕ, zero, suc, ◌+◌, ◌<◌, ◌≤◌, ◌^◌, ℤ, pos, ◌≤ℤ◌, ◌<ℤ◌, Bool, true, false, List, [], ◌∷◌, ◌++◌, length, take, refl, sym, ap, subst, ◌∙◌, arith, length-append}
+use Rattle.std.proofs.Common.{◌≡◌, ℕ, zero, suc, ◌≤◌, ℤ, pos, ◌≤ℤ◌, Bool, true, [], ◌∷◌, ◌++◌, length, take, refl, sym, ap, subst, ◌∙◌, arith, length-append}
 use Rattle.std.specs.Prelude.{IsTrue}
 use Rattle.std.proofs.lemmas.Int.{ints}
 use Rattle.cl_base.specs.declared.entry.Entry.{Entry}
@@ -7,11 +7,11 @@ use Rattle.entry_log.specs.Log.{Log, end_after}
 use Rattle.entry_log.specs.PlaceLaws.{end_from-up}
 use Rattle.entry_log.specs.Shape.{Shape, shape_of, entry_shape, end_of, end_from, last_term_of, last_term_from}
 use Rattle.election.specs.declared.member.State.{State}
-use Rattle.election.specs.declared.member.State.TheVariants.{LeaderInit, LeaderReady}
+use Rattle.election.specs.declared.member.State.TheVariants.{LeaderReady}
 use Rattle.sbe_events.specs.Laws.{encoded}
 use Rattle.sbe_events.specs.Spelling.{HasSpelling, spelling_of, term_of}
 use Rattle.sbe_events.specs.declared.event.Event.{Event}
-use Rattle.sbe_consensus.specs.Spelling.{IsEntry, AreEntries}
+use Rattle.sbe_consensus.specs.Spelling.{IsEntry}
 use Rattle.member_disk.specs.Kept.{Kept}
 use Rattle.member_module.specs.Held.{Held as ModuleHeld}
 use Rattle.consensus_core.specs.declared.values.Values.{Values}
@@ -24,7 +24,7 @@ use Rattle.ingress.specs.declared.view.View.{View}
 use Rattle.ingress.specs.Decisions.{IsAdmitted}
 use Rattle.consensus_agent.specs.Accepted.{HasRoom, IsAppended}
 use Rattle.consensus_agent.specs.Rows.{IsKept}
-use Rattle.consensus_agent.specs.Sound.{NamesVote, HasAhead, IsSound}
+use Rattle.consensus_agent.specs.Sound.{NamesVote, IsSound}
 use Rattle.consensus_agent.proofs.Ahead.{ahead_grown}
 
 front_from : (p n : ℕ) (xs : Shape) → end_from p (take n xs) ≤ end_from p xs

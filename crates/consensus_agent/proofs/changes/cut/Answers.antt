@@ -1,4 +1,3 @@
-use Rattle.std.proofs.Common.{◌≡◌}
 use Rattle.consensus_agent.proofs.Disking.{cut_went, cut_done}
 use Rattle.consensus_agent.proofs.Running.{ok_out}
 use Rattle.consensus_agent.proofs.changes.cut.Goals as goal

@@ -1,4 +1,4 @@
-use Rattle.std.proofs.Common.{◌≡◌, ◌-◌}
+use Rattle.std.proofs.Common.{◌-◌}
 use Rattle.std.specs.Prelude.{IsTrue}
 use Rattle.cl_base.specs.Looks.{Same}
 use Rattle.consensus_agent.specs.Disks.{Looked}

@@ -1,11 +1,10 @@
-use Rattle.std.proofs.Common.{◌≡◌, ℕ, ◌+◌, ◌-◌, ◌≤◌, ◌++◌, ◌∷◌, [], List, length, take, get_or, refl, ap, sym, subst, ◌∙◌, arith}
+use Rattle.std.proofs.Common.{◌≡◌, ℕ, ◌+◌, ◌-◌, ◌≤◌, ◌++◌, ◌∷◌, [], List, length, take, get_or, refl, sym, subst, arith}
 use Rattle.std.specs.Prelude.{IsTrue}
 use Rattle.std.proofs.lemmas.List.{take_more, take_all}
 use Rattle.cl_base.specs.Looks.{same_none, same_more}
 use Rattle.entry_log.specs.Log.{Log}
 use Rattle.member_disk.specs.Kept.{Kept}
-use Rattle.consensus_core.specs.Member.{entries_in}
-use Rattle.consensus_agent.specs.Reads.{AreRead, IsReadOn}
+use Rattle.consensus_agent.specs.Reads.{IsReadOn}
 use Rattle.consensus_agent.proofs.Disking.{looked_more, looked_none}
 use Rattle.consensus_agent.proofs.Ranges.{within_at}
 use Rattle.consensus_agent.proofs.Reading.{AllRead, are_read, read_exact, read_more}

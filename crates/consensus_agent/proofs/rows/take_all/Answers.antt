@@ -1,4 +1,4 @@
-use Rattle.std.proofs.Common.{◌≡◌, [], ◌∷◌, ◌++◌, ap, ◌∙◌, append_assoc}
+use Rattle.std.proofs.Common.{[], ◌∷◌, ◌++◌, ap, ◌∙◌, append_assoc}
 use Rattle.entry_log.specs.Log.{Log}
 use Rattle.member_module.specs.Held.{Held as ModuleHeld}
 use Rattle.consensus_agent.proofs.Taking.{events_push}

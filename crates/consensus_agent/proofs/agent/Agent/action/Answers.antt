@@ -1,7 +1,5 @@
 use Rattle.std.proofs.Common.{◌≡◌, ap}
-use Rattle.std.specs.Prelude.{IfOk}
 use Rattle.std.proofs.lemmas.Result.{IfOk-weaker}
-use Rattle.ingress.specs.declared.outcome.Outcome.{Outcome}
 use Rattle.member_module.specs.Held.{latest_of}
 use Rattle.consensus_agent.specs.Accepted.{IsDone, Leaves, OnNothingNew, TookAction}
 use Rattle.consensus_agent.proofs.Orders.{nothing_since, took_action}

@@ -1,4 +1,4 @@
-use Rattle.std.proofs.Common.{◌≡◌, ap}
+use Rattle.std.proofs.Common.{ap}
 use Rattle.member_module.specs.Held.{latest_of}
 use Rattle.consensus_agent.proofs.Orders.{nothing_since, took_client}
 use Rattle.consensus_agent.proofs.Refusals.{client_leaves}

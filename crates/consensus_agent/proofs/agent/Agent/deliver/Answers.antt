@@ -1,5 +1,4 @@
-use Rattle.std.proofs.Common.{◌≡◌, Err, refl}
-use Rattle.wire_prims.specs.declared.fault.DecodeFault.TheVariants as fault
+use Rattle.std.proofs.Common.{refl}
 use Rattle.consensus_agent.proofs.Disking.{went_none}
 use Rattle.consensus_agent.proofs.agent.Agent.deliver.Goals as goal
 

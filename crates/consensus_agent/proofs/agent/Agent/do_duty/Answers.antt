@@ -4,7 +4,7 @@ use Rattle.entry_log.specs.Shape.{shape_of}
 use Rattle.consensus_core.specs.declared.row.Row.{Row}
 use Rattle.consensus_core.specs.Reign.{does_duty}
 use Rattle.consensus_agent.proofs.Commits.{duty_moves}
-use Rattle.consensus_agent.proofs.Running.{Gave, gave, can_run, rises, still, on_ok, on_both}
+use Rattle.consensus_agent.proofs.Running.{gave, can_run, rises, still, on_ok, on_both}
 use Rattle.consensus_agent.proofs.Sounding.{duty_runs}
 use Rattle.consensus_agent.specs.Disks.{Done, Went}
 use Rattle.consensus_agent.proofs.Taking.{row_taken}

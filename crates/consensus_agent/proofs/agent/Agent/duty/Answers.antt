@@ -1,4 +1,4 @@
-use Rattle.std.proofs.Common.{◌≡◌, ap, subst, refl}
+use Rattle.std.proofs.Common.{ap, subst, refl}
 use Rattle.std.specs.Prelude.{IfOk, OnErr, OnOk}
 use Rattle.entry_log.specs.Shape.{shape_of}
 use Rattle.member_disk.specs.Kept.{Kept, Held as DiskHeld}

@@ -1,4 +1,4 @@
-use Rattle.std.proofs.Common.{◌≡◌, ◌&&◌, ◌||◌, ap, ◌∙◌}
+use Rattle.std.proofs.Common.{◌&&◌, ◌||◌, ap, ◌∙◌}
 use Rattle.std.specs.Prelude.{not}
 use Rattle.consensus_core.specs.Fit.{Held as CoreHeld}
 use Rattle.consensus_core.specs.Member.{is_ready}

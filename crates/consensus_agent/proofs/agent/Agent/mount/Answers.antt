@@ -1,4 +1,4 @@
-use Rattle.std.proofs.Common.{◌≡◌, ap, sym, subst, ◌∙◌, IsTrue, arith}
+use Rattle.std.proofs.Common.{ap, sym, subst, IsTrue, arith}
 use Rattle.log_segment.specs.Held.{AreRanged}
 use Rattle.member_disk.specs.Kept.{Kept}
 use Rattle.consensus_agent.specs.Disks.{HasTerms}

@@ -1,4 +1,4 @@
-use Rattle.std.proofs.Common.{◌≡◌, ap, ◌∙◌}
+use Rattle.std.proofs.Common.{ap, ◌∙◌}
 use Rattle.consensus_agent.proofs.Spoken.{is_spoken, lies_within, shape_in}
 use Rattle.consensus_agent.proofs.agent.Agent.send.Goals as goal
 
