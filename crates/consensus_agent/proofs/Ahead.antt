@@ -1,9 +1,7 @@
 -- What the module has ahead through a change of the log.
-use Rattle.std.proofs.Common.{◌≡◌, ℕ, ◌+◌, ◌-◌, ◌≤◌, List, [], ◌∷◌, ◌++◌, length, take, drop, sym, ap, ◌∙◌, arith, length-append, length-drop}
+use Rattle.std.proofs.Common.{◌≡◌, ℕ, ◌+◌, ◌-◌, ◌≤◌, ◌++◌, length, take, drop, ap, arith, length-append, length-drop}
 use Rattle.std.proofs.lemmas.List.{length-take-le}
-use Rattle.cl_base.specs.declared.entry.Entry.{Entry}
 use Rattle.entry_log.specs.Log.{Log}
-use Rattle.member_disk.specs.Kept.{Kept}
 use Rattle.member_module.specs.Held.{Held as ModuleHeld}
 use Rattle.consensus_agent.specs.Sound.{HasAhead}
 

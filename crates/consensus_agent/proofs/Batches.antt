@@ -1,13 +1,12 @@
 -- Entries that can go behind a log are one batch for its disk.
-use Rattle.std.proofs.Common.{◌≡◌, ◌⊎◌, inl, inr, ℕ, ◌<◌, ◌≤◌, ◌+◌, Bool, true, false, ◌&&◌, ◌||◌, List, [], ◌∷◌, length, refl, sym, ap, subst, ◌∙◌, arith, ℤ, negsuc}
+use Rattle.std.proofs.Common.{◌≡◌, ◌⊎◌, inl, inr, ℕ, ◌<◌, ◌≤◌, Bool, true, false, ◌&&◌, ◌||◌, [], ◌∷◌, length, refl, subst, arith, ℤ}
 use Rattle.std.specs.Prelude.{nat_le, sum, ◌==◌}
 use Rattle.std.proofs.lemmas.Bool.{eqb-true}
 use Rattle.std.proofs.lemmas.Bool.Decides.{nat_tests}
 use Rattle.std.proofs.lemmas.List.Sums.{sum_by-cons}
-use Rattle.cl_base.specs.declared.entry.Entry.{Entry}
 use Rattle.entry_log.specs.Log.{Log, RisesFrom, end_after, last, place}
 use Rattle.entry_log.specs.Batches.{all_in, in_one_segment, is_batch, segment_of}
-use Rattle.entry_log.specs.Shape.{shape_of, entry_shape, lens_of, end_of, last_term_of, TermsRiseFrom}
+use Rattle.entry_log.specs.Shape.{shape_of, lens_of, TermsRiseFrom}
 use Rattle.log_segment.specs.Batch.{AllIn, AreTogether, IsBatchAt, event_bytes}
 use Rattle.consensus_core.specs.Standing.{CanFollow}
 use Rattle.consensus_agent.proofs.Entries.{length_shape}

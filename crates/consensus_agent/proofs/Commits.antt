@@ -1,6 +1,6 @@
 -- How a member's commit moves in a row.
-use Rattle.std.proofs.Common.{◌≡◌, ◌⊎◌, inl, inr, ℕ, ◌≤◌, Bool, true, false, ◌&&◌, ◌||◌, List, [], ◌∷◌, length, max, map, refl, ◌∙◌, sym, ap, arith, ℤ, pos}
-use Rattle.std.specs.Prelude.{not, nat_le, int_lt, int_le, nat_lt, unsigned_abs, take}
+use Rattle.std.proofs.Common.{◌≡◌, ◌⊎◌, inl, inr, ℕ, ◌≤◌, Bool, true, false, ◌&&◌, ◌||◌, List, [], ◌∷◌, max, map, refl, ◌∙◌, sym, ap, arith, ℤ}
+use Rattle.std.specs.Prelude.{not, nat_le, int_lt, unsigned_abs, take}
 use Rattle.cl_base.specs.declared.entry.Entry.{Entry}
 use Rattle.entry_log.specs.Log.{Log, same_term}
 use Rattle.entry_log.specs.Shape.{Shape, end_of, ends_by, last_term_of}
@@ -19,7 +19,7 @@ use Rattle.consensus_core.specs.declared.row.Row.{Row}
 use Rattle.consensus_core.specs.declared.plan.Plan.{Plan}
 use Rattle.consensus_core.specs.declared.values.Values.{Values}
 use Rattle.consensus_core.specs.Member.{is_ready}
-use Rattle.consensus_core.specs.Rows.{outcome, only, nothing, follows, kept_count, is_in, cuts, same_name, name_of_shape, on_answer, is_announcement, on_new_term_at, on_new_term, on_canvass_at, on_report_at, appends, on_batch_at, on_commit_at}
+use Rattle.consensus_core.specs.Rows.{only, kept_count, is_in, cuts, same_name, name_of_shape, on_answer, is_announcement, on_new_term_at, on_new_term, on_canvass_at, on_report_at, appends, on_batch_at, on_commit_at}
 use Rattle.consensus_core.specs.Reign.{entry_of, term_event, begins_reign, admitted, end_limit, commit_after, reports, has_quorum, beats_next, reigns, sends_status, duty_at, does_duty}
 use Rattle.consensus_core.specs.Sendable.{is_sendable, receives_row, receives}
 use Rattle.consensus_core.proofs.Fitting.{choice}

@@ -1,5 +1,5 @@
 -- What is read of a log at an index, and the latest of the listed sets.
-use Rattle.std.proofs.Common.{◌≡◌, ◌⊎◌, inl, inr, ℕ, zero, suc, ◌<◌, ◌≤◌, ◌+◌, ◌-◌, ℤ, pos, ◌≤ℤ◌, Bool, List, [], ◌∷◌, ◌++◌, length, get_or, take, drop, Option, Some, None, refl, sym, ap, subst, ◌∙◌, arith}
+use Rattle.std.proofs.Common.{◌≡◌, inl, inr, ℕ, zero, suc, ◌<◌, ◌-◌, ℤ, pos, ◌≤ℤ◌, Bool, List, [], ◌∷◌, ◌++◌, length, get_or, take, drop, Some, refl, sym, ap, subst, ◌∙◌, arith}
 use Rattle.std.specs.Prelude.{slice_get}
 use Rattle.std.proofs.lemmas.Bool.{cases_eq}
 use Rattle.std.proofs.lemmas.Int.{ints}
@@ -9,7 +9,7 @@ use Rattle.recording_log.specs.Listed.{AreSets, IsAmong, IsBefore}
 use Rattle.recording_log.specs.Sets.{HasNoSet}
 use Rattle.cl_base.specs.declared.entry.Entry.{Entry}
 use Rattle.entry_log.specs.Log.{Log}
-use Rattle.entry_log.specs.Shape.{entry_shape, shape_of}
+use Rattle.entry_log.specs.Shape.{entry_shape}
 use Rattle.log_segment.specs.Held.{IsEventEntry}
 use Rattle.log_segment.specs.Looked.{IsNoDamage as IsNoDisk}
 use Rattle.cl_base.specs.declared.fault.MemberFault.{MemberFault}

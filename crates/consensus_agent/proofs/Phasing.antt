@@ -1,5 +1,5 @@
 -- Lists of feeds and of containers through a phase.
-use Rattle.std.proofs.Common.{◌≡◌, ℕ, ◌+◌, ◌-◌, ◌^◌, ◌<◌, ◌≤◌, min, max, Bool, true, false, add-zero, List, [], ◌∷◌, ◌++◌, length, map, ap, sym, refl, ◌∙◌, subst, arith}
+use Rattle.std.proofs.Common.{◌≡◌, ℕ, ◌^◌, ◌<◌, ◌≤◌, min, max, Bool, false, add-zero, List, [], ◌∷◌, ◌++◌, length, map, ap, sym, refl, ◌∙◌, subst, arith}
 use Rattle.cl_base.specs.declared.entry.Entry.{Entry}
 use Rattle.commit_counter.specs.Ends.{Fed, fed_to}
 use Rattle.service_container.specs.Held.{Held, begun, consumed_to}

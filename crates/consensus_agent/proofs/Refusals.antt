@@ -1,5 +1,5 @@
 -- An order that is refused isn't accepted, and leaves the disk as it is.
-use Rattle.std.proofs.Common.{◌≡◌, ◌⊎◌, inl, inr, ℕ, ◌+◌, ◌<◌, ◌≤◌, ℤ, pos, Bool, true, false, ◌&&◌, ◌||◌, List, [], ◌∷◌, ◌++◌, length, drop, Option, Some, None, refl, sym, ap, subst, ◌∙◌, arith, if◌then◌else◌}
+use Rattle.std.proofs.Common.{◌≡◌, ◌⊎◌, inl, inr, ℕ, ◌+◌, ℤ, pos, Bool, true, false, ◌&&◌, ◌||◌, List, [], ◌∷◌, ◌++◌, length, drop, Option, Some, None, refl, sym, ap, subst, ◌∙◌, arith, if◌then◌else◌}
 use Rattle.std.specs.Prelude.{⊤, not, nat_lt, nat_le, ◌==◌}
 use Rattle.std.proofs.lemmas.Bool.{eqb-true}
 use Rattle.std.proofs.lemmas.Bool.Decides.{nat_tests}
@@ -19,11 +19,11 @@ use Rattle.ingress.specs.declared.outcome.Outcome.TheVariants as outcome
 use Rattle.ingress.specs.declared.decision.Decided.{Decided}
 use Rattle.ingress.specs.declared.decision.Decided.TheVariants as decisions
 use Rattle.ingress.specs.declared.view.View.{View}
-use Rattle.ingress.specs.Outcomes.{Rows, first_row, leading_rows, naming_rows, size_rows, open_rows, action_rows, room_rows}
-use Rattle.ingress.specs.Decisions.{Admits, unless, end_of, admitted, rows_before, passed_on, decided, decided_action}
+use Rattle.ingress.specs.Outcomes.{Rows, first_row, leading_rows, action_rows, room_rows}
+use Rattle.ingress.specs.Decisions.{Admits, unless, end_of, admitted, rows_before, decided, decided_action}
 use Rattle.consensus_core.specs.declared.values.Values.{Values}
 use Rattle.consensus_core.proofs.Fitting.{choice}
-use Rattle.consensus_agent.specs.Accepted.{IsAppended, IsDecided, IsDone, Leaves, TookAction, TookClient}
+use Rattle.consensus_agent.specs.Accepted.{IsDecided, IsDone, Leaves, TookAction, TookClient}
 
 -- ---- bytes without a fault are a message
 
@@ -168,19 +168,19 @@ of_admitted w actions now term (decisions.Refuse o) is admits = tt
 of_admitted w actions now term (decisions.Alive session) is admits = tt
 of_admitted w actions now term (decisions.Append e) is admits = admits.term ∙ is
 
-done_leaves : (d : Decided) (o : Outcome) (term : ℤ) (a b : Kept) (m n : ModuleHeld) → refusal_in d ≡ true → OfTerm term d → IsDone d o a b m n → Leaves o term a b
-done_leaves (decisions.Refuse refusal) o term a b m n refuses of done = subst (λ z. Leaves z term a b) (sym done.0) (refused refusal refuses)
+done_leaves : (d : Decided) (now : ℕ) (o : Outcome) (term : ℤ) (a b : Kept) (m n : ModuleHeld) → refusal_in d ≡ true → OfTerm term d → IsDone d now o a b m n → Leaves o term a b
+done_leaves (decisions.Refuse refusal) now o term a b m n refuses of done = subst (λ z. Leaves z term a b) (sym done.0) (refused refusal refuses)
   where
     refused : (z : Outcome) → is_refusal z ≡ true → Leaves z term a b
     refused (outcome.Accepted i) h = absurd (cc)
     refused _ h = done.1
-done_leaves (decisions.Alive session) o term a b m n refuses of done = subst (λ z. Leaves z term a b) (sym done.0) done.1
-done_leaves (decisions.Append e) o term a b m n refuses of done = subst (λ z. Leaves z term a b) (sym done.0) (record { event = e; of_term = of; appended = done.1 })
+done_leaves (decisions.Alive session) now o term a b m n refuses of done = subst (λ z. Leaves z term a b) (sym done.0) done.1
+done_leaves (decisions.Append e) now o term a b m n refuses of done = subst (λ z. Leaves z term a b) (sym done.0) (record { event = e; of_term = of; appended = done.1 })
 
 pub client_leaves : (v : Values) (bytes : List ℕ) (now : ℕ) (o : Outcome) (a b : Kept) (m n : ModuleHeld) → TookClient v bytes now o a b m n → Leaves o v.election.term a b
 client_leaves v bytes now o a b m n took =
-    done_leaves took.decision o v.election.term a b m n (bytes_refuse took.view bytes now took.decision took.by) (of_admitted took.view 0 now v.election.term took.decision took.is.term (took.by.admits 0)) took.done
+    done_leaves took.decision now o v.election.term a b m n (bytes_refuse took.view bytes now took.decision took.by) (of_admitted took.view 0 now v.election.term took.decision took.is.term (took.by.admits 0)) took.done
 
 pub action_leaves : (v : Values) (now : ℕ) (o : Outcome) (a b : Kept) (m n : ModuleHeld) → TookAction v now o a b m n → Leaves o v.election.term a b
 action_leaves v now o a b m n took =
-    done_leaves took.decision o v.election.term a b m n (ap refusal_in took.by.is ∙ action_refuses took.view _ now) (of_admitted took.view _ now v.election.term took.decision took.is.term took.by.admits) took.done
+    done_leaves took.decision now o v.election.term a b m n (ap refusal_in took.by.is ∙ action_refuses took.view _ now) (of_admitted took.view _ now v.election.term took.decision took.is.term took.by.admits) took.done

@@ -1,8 +1,6 @@
 -- The row that the core ran is the row over the log, and what was made of it is what it says.
-use Rattle.std.proofs.Common.{◌≡◌, ◌⊎◌, inl, inr, ℕ, ◌≤◌, Bool, true, false, ◌||◌, List, refl, sym, ap, subst, ◌∙◌, arith}
+use Rattle.std.proofs.Common.{◌≡◌, ℕ, ◌≤◌, Bool, true, false, ◌||◌, List, sym, ap, subst, ◌∙◌}
 use Rattle.std.specs.Prelude.{Result, Ok, Err, OnOk}
-use Rattle.entry_log.specs.Shape.{Shape, shape_of}
-use Rattle.election.specs.declared.member.State.{State}
 use Rattle.sbe_consensus.specs.declared.packet.Outgoing.{Outgoing}
 use Rattle.member_disk.specs.Kept.{Kept, Held as DiskHeld}
 use Rattle.consensus_core.specs.declared.change.Change.{Change}
@@ -10,7 +8,7 @@ use Rattle.consensus_core.specs.declared.row.Row.{Row}
 use Rattle.consensus_core.specs.declared.values.Values.{Values}
 use Rattle.consensus_core.specs.Fit.{Held as CoreHeld, held_by}
 use Rattle.consensus_core.specs.Member.{is_ready}
-use Rattle.consensus_agent.specs.Rows.{IsKept, Made, CutRow, IsSpoken, RowRan}
+use Rattle.consensus_agent.specs.Rows.{Made, CutRow, IsSpoken, RowRan}
 use Rattle.consensus_agent.specs.Sound.{CanRun, ends_phase}
 use Rattle.consensus_agent.proofs.Commits.{Moves, row_rises, row_still}
 
@@ -29,11 +27,11 @@ pub can_run : (row : Row) (c : Change) (h : CoreHeld) (k : Kept) (n : ℕ) → G
 can_run row c h k n g can =
     subst (λ z. CanRun z h.values k n) (sym g.change) (subst (λ (z : CoreHeld). CanRun row.change z.values k n) (sym g.held) can)
 
-pub ran : (row : Row) (c : Change) (h : CoreHeld) (w : Values) (a b : Kept) (out : List Outgoing) → Gave row c h → Made c a b → w ≡ h.values → IsSpoken h (shape_of b.log) out → RowRan row a b w out
-ran row c h w a b out g made values spoken = record {
+pub ran : (told : Bool) (row : Row) (c : Change) (h : CoreHeld) (w : Values) (a b : Kept) (out : List Outgoing) → Gave row c h → Made c a b → w ≡ h.values → IsSpoken told h b.log out → RowRan told row a b w out
+ran told row c h w a b out g made values spoken = record {
   change = subst (λ z. Made z a b) g.change made;
   values = values ∙ ap (λ (z : CoreHeld). z.values) g.held;
-  sent = subst (λ z. IsSpoken z (shape_of b.log) out) g.held spoken;
+  sent = subst (λ z. IsSpoken told z b.log out) g.held spoken;
 }
 
 pub cut_short : (row : Row) (c : Change) (h : CoreHeld) (a b : Kept) → Gave row c h → CutRow c a b → CutRow row.change a b
@@ -62,3 +60,7 @@ on_ok (Err e) f h = tt
 pub on_both : {T E P Q R : Type 0} (r : Result T E) → (P → Q → R) → OnOk r P → OnOk r Q → OnOk r R
 on_both (Ok x) f h g = f h g
 on_both (Err e) f h g = tt
+
+pub ok_out : {T E P : Type 0} (r : Result T E) (x : T) → r ≡ Ok x → OnOk r P → P
+ok_out (Ok y) x is h = h
+ok_out (Err e) x is h = absurd (cc)

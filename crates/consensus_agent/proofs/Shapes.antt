@@ -1,5 +1,5 @@
 -- A log and its shape.
-use Rattle.std.proofs.Common.{◌≡◌, sym, refl}
+use Rattle.std.proofs.Common.{◌≡◌}
 use Rattle.entry_log.specs.Log.{Log, place, last}
 use Rattle.entry_log.specs.Shape.{shape_of, end_of, last_term_of, end_from-shape_of, last_term_from-shape_of}
 

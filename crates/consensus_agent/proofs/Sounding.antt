@@ -1,20 +1,16 @@
 -- What is true of a member that goes on stays true.
-use Rattle.std.proofs.Common.{◌≡◌, ◌⊎◌, inl, inr, ℕ, zero, suc, ◌+◌, ◌-◌, ◌<◌, ◌≤◌, ◌^◌, ℤ, pos, ◌≤ℤ◌, ◌<ℤ◌, Bool, true, false, ◌||◌, List, [], ◌∷◌, ◌++◌, length, take, drop, Option, refl, sym, ap, subst, ◌∙◌, arith, length-append}
-use Rattle.std.specs.Prelude.{IsTrue, All, IfSome}
+use Rattle.std.proofs.Common.{◌≡◌, ℕ, zero, suc, ◌+◌, ◌-◌, ◌<◌, ◌≤◌, ◌^◌, ℤ, pos, ◌≤ℤ◌, ◌<ℤ◌, Bool, true, false, ◌||◌, List, [], ◌∷◌, ◌++◌, length, take, drop, Option, refl, sym, ap, subst, ◌∙◌, arith}
+use Rattle.std.specs.Prelude.{IsTrue, All}
 use Rattle.std.proofs.lemmas.Int.{ints}
-use Rattle.std.proofs.lemmas.List.{length-map, length-take-le}
 use Rattle.std.proofs.lemmas.List.Elements.{All-head, All-tail}
-use Rattle.cl_base.specs.declared.entry.Entry.{Entry}
 use Rattle.entry_log.specs.Log.{Log, end_after}
-use Rattle.entry_log.specs.PlaceLaws.{end_from-up}
 use Rattle.entry_log.specs.Places.{end_after-past}
-use Rattle.entry_log.specs.Shape.{Shape, shape_of, entry_shape, end_of, end_from, last_term_of, last_term_from}
+use Rattle.entry_log.specs.Shape.{Shape, shape_of, entry_shape, end_from, last_term_of, last_term_from}
 use Rattle.log_segment.specs.Held.{IsRanged, AreRanged}
 use Rattle.sbe_consensus.specs.Spelling.{HasSpelling as IsPacket}
 use Rattle.sbe_consensus.specs.declared.packet.Packet.{Packet}
 use Rattle.sbe_events.specs.Spelling.{HasSpelling as IsEvent, term_of}
 use Rattle.sbe_events.specs.declared.event.Event.{Event}
-use Rattle.node_state.specs.Node.{Node}
 use Rattle.member_disk.specs.Kept.{Kept}
 use Rattle.member_module.specs.Held.{Held as ModuleHeld}
 use Rattle.consensus_core.specs.declared.change.Change.{Change}
@@ -29,7 +25,7 @@ use Rattle.consensus_core.specs.Standing.{Standing, CanMake, changed_shape}
 use Rattle.consensus_core.proofs.Fitting.{receives_fit, duty_fits}
 use Rattle.consensus_core.proofs.Standing.{packets_fit, duties_fit, starts_fit}
 use Rattle.consensus_agent.specs.Rows.{IsKept, Made}
-use Rattle.consensus_agent.specs.Sound.{NamesVote, HasAhead, IsSound, CanRaise, CanChange, CanRun, changed_node}
+use Rattle.consensus_agent.specs.Sound.{NamesVote, HasAhead, IsSound, CanChange, CanRun, changed_node}
 use Rattle.consensus_agent.proofs.Ahead.{ahead_taken}
 use Rattle.consensus_agent.proofs.Commits.{receives_moves, duty_moves, rises_of}
 use Rattle.consensus_agent.proofs.Entries.{length_shape}

@@ -1,5 +1,5 @@
 -- What an order looks at, and the entry that it puts behind the log.
-use Rattle.std.proofs.Common.{◌≡◌, ℕ, zero, suc, ◌+◌, ◌<◌, ◌≤◌, ◌^◌, ℤ, pos, ◌≤ℤ◌, ◌<ℤ◌, Bool, true, false, List, [], ◌∷◌, ◌++◌, length, take, refl, sym, ap, subst, ◌∙◌, arith, length-append}
+use Rattle.std.proofs.Common.{◌≡◌, ℕ, zero, suc, ◌≤◌, ℤ, pos, ◌≤ℤ◌, Bool, true, [], ◌∷◌, ◌++◌, length, take, refl, sym, ap, subst, ◌∙◌, arith, length-append}
 use Rattle.std.specs.Prelude.{IsTrue}
 use Rattle.std.proofs.lemmas.Int.{ints}
 use Rattle.cl_base.specs.declared.entry.Entry.{Entry}
@@ -7,11 +7,11 @@ use Rattle.entry_log.specs.Log.{Log, end_after}
 use Rattle.entry_log.specs.PlaceLaws.{end_from-up}
 use Rattle.entry_log.specs.Shape.{Shape, shape_of, entry_shape, end_of, end_from, last_term_of, last_term_from}
 use Rattle.election.specs.declared.member.State.{State}
-use Rattle.election.specs.declared.member.State.TheVariants.{LeaderInit, LeaderReady}
+use Rattle.election.specs.declared.member.State.TheVariants.{LeaderReady}
 use Rattle.sbe_events.specs.Laws.{encoded}
 use Rattle.sbe_events.specs.Spelling.{HasSpelling, spelling_of, term_of}
 use Rattle.sbe_events.specs.declared.event.Event.{Event}
-use Rattle.sbe_consensus.specs.Spelling.{IsEntry, AreEntries}
+use Rattle.sbe_consensus.specs.Spelling.{IsEntry}
 use Rattle.member_disk.specs.Kept.{Kept}
 use Rattle.member_module.specs.Held.{Held as ModuleHeld}
 use Rattle.consensus_core.specs.declared.values.Values.{Values}
@@ -24,7 +24,7 @@ use Rattle.ingress.specs.declared.view.View.{View}
 use Rattle.ingress.specs.Decisions.{IsAdmitted}
 use Rattle.consensus_agent.specs.Accepted.{HasRoom, IsAppended}
 use Rattle.consensus_agent.specs.Rows.{IsKept}
-use Rattle.consensus_agent.specs.Sound.{NamesVote, HasAhead, IsSound}
+use Rattle.consensus_agent.specs.Sound.{NamesVote, IsSound}
 use Rattle.consensus_agent.proofs.Ahead.{ahead_grown}
 
 front_from : (p n : ℕ) (xs : Shape) → end_from p (take n xs) ≤ end_from p xs
@@ -124,7 +124,7 @@ admitted_room v k w actions now e admitted ready term place = record {
 }
 
 -- the entry of an order is at its index
-pub appended : (i : ℕ) (v : Values) (a b : Kept) (e : Event) (x : Entry) → HasRoom v a e → i ≡ length a.log → x.term ≡ v.election.term → x.bytes ≡ spelling_of e → IsKept a.node (a.log ++ x ∷ []) b → IsAppended i e a b
-appended i v a b e x room index term bytes kept =
+pub appended : (i : ℕ) (v : Values) (a b : Kept) (e : Event) (x : Entry) → HasRoom v a e → HasSpelling e → i ≡ length a.log → x.term ≡ v.election.term → x.bytes ≡ spelling_of e → IsKept a.node (a.log ++ x ∷ []) b → IsAppended i e a b
+appended i v a b e x room spelled index term bytes kept =
     let is : x ≡ entry_of e = entry_is e x (term ∙ sym room.term) bytes in
-    record { index = index; kept = record { node = kept.node; log = kept.log ∙ ap (λ (y : Entry). a.log ++ y ∷ []) is } }
+    record { spelled = spelled; index = index; kept = record { node = kept.node; log = kept.log ∙ ap (λ (y : Entry). a.log ++ y ∷ []) is } }

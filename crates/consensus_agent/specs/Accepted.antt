@@ -1,16 +1,17 @@
 -- What an order of a client, or an action, leaves of a member.
-use Rattle.std.specs.Prelude.{◌≡◌, ⊤, ℕ, ◌≤◌, ℤ, true, List, [], ◌∷◌, ◌++◌, length, take, Some}
+use Rattle.std.specs.Prelude.{◌≡◌, ⊤, ℕ, ◌≤◌, ℤ, true, List, [], ◌∷◌, ◌++◌, length, take, Some, None}
 use Rattle.wire_prims.specs.declared.fault.Bad.{Bad}
 use Rattle.entry_log.specs.Log.{Log, end_after}
 use Rattle.entry_log.specs.Shape.{shape_of, end_of}
 use Rattle.election.specs.declared.member.State.TheVariants.{LeaderReady}
 use Rattle.sbe_client.specs.Reading.{ReadsIngress, first_fault_ingress}
 use Rattle.sbe_client.specs.declared.ingress.Ingress.{Ingress}
-use Rattle.sbe_events.specs.Spelling.{spelling_of, term_of}
+use Rattle.egress.specs.declared.sent.Sent.{Sent}
+use Rattle.sbe_events.specs.Spelling.{HasSpelling, spelling_of, term_of}
 use Rattle.sbe_events.specs.declared.event.Event.{Event}
 use Rattle.member_disk.specs.Kept.{Kept}
 use Rattle.module_state.specs.Module.{Module}
-use Rattle.member_module.specs.Held.{Held as ModuleHeld, at_end}
+use Rattle.member_module.specs.Held.{Held as ModuleHeld, at_end, heard}
 use Rattle.consensus_core.specs.declared.values.Values.{Values}
 use Rattle.consensus_core.specs.Fit.{leader_number}
 use Rattle.consensus_core.specs.Member.{is_ready}
@@ -29,8 +30,9 @@ pub record HasRoom (v : Values) (k : Kept) (e : Event) : Type 0 where
   pub term : term_of e ≡ v.election.term
   pub room : end_after (end_of (shape_of k.log)) (length (spelling_of e)) ≤ 16777216
 
--- the entry of this event stands behind the log, at this index
+-- the entry of this event, whose fields are in their ranges, stands behind the log, at this index
 pub record IsAppended (i : ℕ) (e : Event) (a b : Kept) : Type 0 where
+  pub spelled : HasSpelling e
   pub index : i ≡ length a.log
   pub kept : IsKept a.node (a.log ++ entry_of e ∷ []) b
 
@@ -44,6 +46,15 @@ pub record IsAccepted (i : ℕ) (term : ℤ) (a b : Kept) : Type 0 where
 abbrev pub Leaves : Outcome → ℤ → Kept → Kept → Type 0
 Leaves (outcome.Accepted i) term a b = IsAccepted i term a b
 Leaves _ term a b = b ≡ a
+
+-- a fact of an outcome that adds nothing to the log
+abbrev pub OnNothingNew : Outcome → Type 0 → Type 0
+OnNothingNew (outcome.Accepted i) p = ⊤
+OnNothingNew _ p = p
+
+-- an answer that no entry owes
+abbrev pub IsDirect : Sent → Type 0
+IsDirect s = s.entry ≡ None
 
 -- ---- what is decided
 
@@ -94,15 +105,18 @@ pub record IsCalm (a b : ModuleHeld) : Type 0 where
   pub consumed : b.consumed ≡ a.consumed
   pub entries : b.ahead.entries ≡ a.ahead.entries
   pub events : b.ahead.events ≡ a.ahead.events
+  pub coming : b.coming ≡ a.coming
   pub alive : b.alive ≡ a.alive
   pub since : b.since ≡ a.since
 
--- all that stays but for the keep-alives
-pub record IsHeard (a b : ModuleHeld) : Type 0 where
+-- all that stays, but for the last keep-alive of this session, at this moment (ms)
+pub record IsHeard (session : ℤ) (now : ℕ) (a b : ModuleHeld) : Type 0 where
   pub state : b.state ≡ a.state
   pub consumed : b.consumed ≡ a.consumed
   pub entries : b.ahead.entries ≡ a.ahead.entries
   pub events : b.ahead.events ≡ a.ahead.events
+  pub coming : b.coming ≡ a.coming
+  pub alive : b.alive ≡ heard session now a.alive
   pub since : b.since ≡ a.since
 
 -- all that stays, but for one more event ahead
@@ -111,14 +125,15 @@ pub record HasMore (e : Event) (a b : ModuleHeld) : Type 0 where
   pub consumed : b.consumed ≡ a.consumed
   pub entries : b.ahead.entries ≡ a.ahead.entries ++ entry_of e ∷ []
   pub events : b.ahead.events ≡ a.ahead.events ++ e ∷ []
+  pub coming : b.coming ≡ None
   pub alive : b.alive ≡ a.alive
   pub since : b.since ≡ a.since
 
--- what was decided is done, with this outcome
-abbrev pub IsDone : Decided → Outcome → Kept → Kept → ModuleHeld → ModuleHeld → Type 0
-IsDone (decisions.Refuse refusal) o a b m n = (o ≡ refusal) × (b ≡ a) × IsCalm m n
-IsDone (decisions.Alive session) o a b m n = (o ≡ outcome.Alive) × (b ≡ a) × IsHeard m n
-IsDone (decisions.Append e) o a b m n = (o ≡ outcome.Accepted (length a.log)) × IsAppended (length a.log) e a b × HasMore e m n
+-- what was decided at this moment (ms) is done, with this outcome
+abbrev pub IsDone : Decided → ℕ → Outcome → Kept → Kept → ModuleHeld → ModuleHeld → Type 0
+IsDone (decisions.Refuse refusal) now o a b m n = (o ≡ refusal) × (b ≡ a) × IsCalm m n
+IsDone (decisions.Alive session) now o a b m n = (o ≡ outcome.Alive) × (b ≡ a) × IsHeard session now m n
+IsDone (decisions.Append e) now o a b m n = (o ≡ outcome.Accepted (length a.log)) × IsAppended (length a.log) e a b × HasMore e m n
 
 -- a client's bytes were taken, with this outcome
 pub record TookClient (v : Values) (bytes : List ℕ) (now : ℕ) (o : Outcome) (a b : Kept) (m n : ModuleHeld) : Type 0 where
@@ -126,7 +141,7 @@ pub record TookClient (v : Values) (bytes : List ℕ) (now : ℕ) (o : Outcome) 
   pub decision : Decided
   pub is : IsView view v a.log (at_end m)
   pub by : IsDecided view bytes now decision
-  pub done : IsDone decision o a b m n
+  pub done : IsDone decision now o a b m n
 
 -- an action was taken, with this outcome
 pub record TookAction (v : Values) (now : ℕ) (o : Outcome) (a b : Kept) (m n : ModuleHeld) : Type 0 where
@@ -134,4 +149,4 @@ pub record TookAction (v : Values) (now : ℕ) (o : Outcome) (a b : Kept) (m n :
   pub decision : Decided
   pub is : IsView view v a.log (at_end m)
   pub by : IsDecidedAction view (at_end m) now decision
-  pub done : IsDone decision o a b m n
+  pub done : IsDone decision now o a b m n

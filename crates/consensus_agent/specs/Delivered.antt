@@ -1,5 +1,5 @@
 -- What became of a packet.
-use Rattle.std.specs.Prelude.{◌≡◌, ⊤, ℕ, List, Some}
+use Rattle.std.specs.Prelude.{◌≡◌, ⊤, ℕ, Bool, List, Some}
 use Rattle.sbe_consensus.specs.Spelling.{first_fault}
 use Rattle.consensus_core.specs.declared.row.Row.{Row}
 use Rattle.consensus_core.specs.declared.values.Values.{Values}
@@ -9,9 +9,9 @@ use Rattle.consensus_agent.specs.declared.rows.Delivered.TheVariants as delivere
 use Rattle.consensus_agent.specs.Rows.{RowRan}
 
 -- the packet's row was run, and its packets go out
-abbrev pub RanPacket : Row → Kept → Kept → Values → Delivered → Type 0
-RanPacket row a b v (delivered.Sent out) = RowRan row a b v out
-RanPacket row a b v (delivered.Bad bad) = ⊥
+abbrev pub RanPacket : Bool → Row → Kept → Kept → Values → Delivered → Type 0
+RanPacket told row a b v (delivered.Sent out) = RowRan told row a b v out
+RanPacket told row a b v (delivered.Bad bad) = ⊥
 
 -- bytes that are called bad are so, by their first fault
 abbrev pub TellsBad : List ℕ → Delivered → Type 0

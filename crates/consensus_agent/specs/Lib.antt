@@ -1,5 +1,7 @@
 pub mod Reads
 pub mod Rows
+pub mod Taken
+pub mod Disks
 pub mod Delivered
 pub mod Phases
 pub mod Starts

@@ -1,8 +1,8 @@
 -- What a row makes of a member.
-use Rattle.std.specs.Prelude.{◌≡◌, ◌⊎◌, ℕ, ℤ, List, ◌++◌, take}
+use Rattle.std.specs.Prelude.{◌≡◌, ◌⊎◌, ℕ, ℤ, Bool, IsTrue, List, ◌++◌, take}
 use Rattle.cl_base.specs.declared.entry.Entry.{Entry}
 use Rattle.entry_log.specs.Log.{Log}
-use Rattle.entry_log.specs.Shape.{Shape, shape_of}
+use Rattle.entry_log.specs.Shape.{shape_of}
 use Rattle.node_state.specs.Node.{Node, raised}
 use Rattle.member_disk.specs.Kept.{Kept}
 use Rattle.module_state.specs.Due.{due}
@@ -12,6 +12,7 @@ use Rattle.consensus_core.specs.declared.change.Change.TheVariants as changes
 use Rattle.consensus_core.specs.declared.row.Row.{Row}
 use Rattle.consensus_core.specs.declared.values.Values.{Values}
 use Rattle.consensus_core.specs.Fit.{Held, held_by}
+use Rattle.consensus_core.specs.Member.{entries_in}
 use Rattle.consensus_core.specs.Whole.{packets_sent, wanted}
 use Rattle.sbe_consensus.specs.declared.packet.Outgoing.{Outgoing}
 use Rattle.consensus_agent.specs.Reads.{AreRead}
@@ -33,17 +34,18 @@ Made (changes.Cut n) a b = IsKept a.node (take n a.log) b
 abbrev pub CutRow : Change → Kept → Kept → Type 0
 CutRow change a b = IsKept a.node a.log b ⊎ Made change a b
 
--- the packets of what was to be sent over a log of this shape, with the entries that were read of the log for its batches
-pub record IsSpoken (c : Held) (xs : Shape) (out : List Outgoing) : Type 0 where
+-- the packets of what was to be sent over this log, with the entries that were read of it for its batches: on a disk that tells its contents the log's own
+pub record IsSpoken (told : Bool) (c : Held) (log : Log) (out : List Outgoing) : Type 0 where
   pub read : List Entry
-  pub entries : AreRead (wanted c xs) read
-  pub packets : out ≡ packets_sent c xs read
+  pub entries : AreRead (wanted c (shape_of log)) read
+  pub own : IsTrue told → read ≡ entries_in (wanted c (shape_of log)) log
+  pub packets : out ≡ packets_sent c (shape_of log) read
 
 -- the row was run: its change is on the disk, its values are the member's, and then these packets go out
-pub record RowRan (row : Row) (a b : Kept) (v : Values) (out : List Outgoing) : Type 0 where
+pub record RowRan (told : Bool) (row : Row) (a b : Kept) (v : Values) (out : List Outgoing) : Type 0 where
   pub change : Made row.change a b
   pub values : v ≡ row.values
-  pub sent : IsSpoken (held_by row) (shape_of b.log) out
+  pub sent : IsSpoken told (held_by row) b.log out
 
 -- what is due to a member with this module that leads this term
 abbrev pub due_to : ModuleHeld → ℤ → ℕ → List Event

@@ -1,5 +1,5 @@
 -- What is true of a member that goes on, and of a row that it can run.
-use Rattle.std.specs.Prelude.{◌≡◌, ⊤, ℕ, ◌+◌, ◌<◌, ◌≤◌, ◌^◌, ℤ, pos, ◌<ℤ◌, ◌≤ℤ◌, Bool, true, false, ◌&&◌, ◌||◌, not, IsTrue, IfSome, Option, ◌++◌, length, take}
+use Rattle.std.specs.Prelude.{◌≡◌, ⊤, ℕ, ◌+◌, ◌<◌, ◌≤◌, ◌^◌, ℤ, pos, ◌<ℤ◌, ◌≤ℤ◌, Bool, true, false, ◌&&◌, ◌||◌, not, IsTrue, IfSome, Option, length}
 use Rattle.entry_log.specs.Log.{Log}
 use Rattle.entry_log.specs.Shape.{shape_of}
 use Rattle.election.specs.declared.member.State.{State}

@@ -156,7 +156,6 @@ impl<D: Disk> Agent<D> {
         ensures whole { self.new.is_whole ≡ self.old.is_whole }
         ensures tells { D.tells self.new.disk.disk ≡ D.tells self.old.disk.disk }
         ensures honest { D.is_honest self.new.disk.disk ≡ D.is_honest self.old.disk.disk }
-        // Files and faults are as they were.
         ensures told { IsTrue (D.tells self.old.disk.disk) → D.state self.new.disk.disk ≡ record (D.state self.old.disk.disk) { lets = Some calls } }
     {
         self.disk.fuse(calls);

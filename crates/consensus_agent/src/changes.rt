@@ -3,6 +3,7 @@ ghost use Rattle.std.specs.Prelude.{◌≡◌, ◌≤◌, IsTrue, OnErr, OnOk, l
 ghost use Rattle.entry_log.specs.Shape.{shape_of};
 ghost use Rattle.consensus_core.specs.declared.change.Change.TheVariants as Change;
 ghost use Rattle.consensus_core.specs.Standing.{CanFollow};
+ghost use Rattle.consensus_agent.specs.Disks.{Done, Went};
 ghost use Rattle.consensus_agent.specs.Rows.{IsKept, Made};
 ghost use Rattle.consensus_agent.specs.Sound.{CanRaise};
 
@@ -21,6 +22,8 @@ pub fn raise<D: Disk>(
     ensures made { OnOk result (Made (Change.Raise term voted) disk.old.kept disk.new.kept) }
     ensures stays { OnErr result (IsKept disk.old.kept.node disk.old.kept.log disk.new.kept) }
     ensures whole { OnOk result (IsTrue disk.new.whole) }
+    ensures went { Went D.state D.tells D.is_honest (Change.Raise term voted) disk.old disk.new }
+    ensures done { OnOk result (Done D.state D.tells D.is_honest (Change.Raise term voted) disk.old disk.new) }
 {
     disk.raise_term(term, voted)?;
     Ok(())
@@ -34,6 +37,8 @@ pub fn append<D: Disk>(disk: &mut MemberDisk<D>, entries: &[Entry]) -> Result<()
     ensures made { OnOk result (Made (Change.Append entries.now) disk.old.kept disk.new.kept) }
     ensures stays { OnErr result (IsKept disk.old.kept.node disk.old.kept.log disk.new.kept) }
     ensures whole { OnOk result (IsTrue disk.new.whole) }
+    ensures went { Went D.state D.tells D.is_honest (Change.Append entries.now) disk.old disk.new }
+    ensures done { OnOk result (Done D.state D.tells D.is_honest (Change.Append entries.now) disk.old disk.new) }
 {
     disk.append(entries)?;
     Ok(())
@@ -46,6 +51,8 @@ pub fn cut<D: Disk>(disk: &mut MemberDisk<D>, entries: u64) -> Result<(), AgentF
     ensures made { OnOk result (Made (Change.Cut entries) disk.old.kept disk.new.kept) }
     ensures stays { OnErr result (IsKept disk.old.kept.node disk.old.kept.log disk.new.kept) }
     ensures whole { OnOk result (IsTrue disk.new.whole) }
+    ensures went { Went D.state D.tells D.is_honest (Change.Cut entries) disk.old disk.new }
+    ensures done { OnOk result (Done D.state D.tells D.is_honest (Change.Cut entries) disk.old disk.new) }
 {
     disk.cut(entries)?;
     Ok(())

@@ -1,12 +1,12 @@
 // What a member does with a client's message, and with a snapshot action.
-ghost use Rattle.std.specs.Prelude.{◌≡◌, ◌≤◌, ◌^◌, true, IsTrue, IfOk, OnErr, OnOk};
+ghost use Rattle.std.specs.Prelude.{◌≡◌, ◌≤◌, ◌^◌, true, IsTrue, IfOk, IfSome, OnErr, OnOk};
 ghost use Rattle.entry_log.specs.Shape.{end_of, shape_of};
 ghost use Rattle.sbe_events.specs.Spelling.{HasSpelling, spelling_of, term_of};
 ghost use Rattle.consensus_core.specs.Member.{is_ready as leads};
 ghost use Rattle.consensus_core.specs.Reign.{entry_of};
 ghost use Rattle.ingress.specs.Decisions.{IsSeen};
 ghost use Rattle.member_module.specs.Held.{at_end, latest_of};
-ghost use Rattle.consensus_agent.specs.Accepted.{Decides, DecidesAction, HasMore, HasRoom, HasRoomFor, IsAppended, IsCalm, IsDone, IsView, Leaves, TookAction, TookClient};
+ghost use Rattle.consensus_agent.specs.Accepted.{Decides, DecidesAction, HasMore, HasRoom, HasRoomFor, IsAppended, IsCalm, IsDirect, IsDone, IsView, Leaves, OnNothingNew, TookAction, TookClient};
 ghost use Rattle.consensus_agent.specs.Rows.{IsKept};
 
 use crate::agent::Agent;
@@ -34,6 +34,8 @@ impl<D: Disk> Agent<D> {
     #[tactic(auto, using(crate::proofs::Sounding::kept_sound, crate::proofs::Orders::calm_same, crate::proofs::Orders::calm_of, crate::proofs::Orders::calm_up, crate::proofs::Orders::up_of))]
     fn look(&mut self) -> Result<(), NoMemory>
         ensures services { self.new.services ≡ self.old.services }
+        ensures base { self.new.base ≡ self.old.base }
+        ensures role { self.new.role ≡ self.old.role }
         ensures calm { IsCalm self.old.module self.new.module }
         ensures up { OnOk result (leads self.old.core.values.election.state ≡ true → latest_of self.new.module.latest self.new.module.state ≡ at_end self.old.module) }
         ensures core { self.new.core ≡ self.old.core }
@@ -67,7 +69,9 @@ impl<D: Disk> Agent<D> {
     }
 
     /// The answer to a connect that was refused, where it gets one.
-    fn answer(&self, bytes: &[u8], outcome: &Outcome) -> Result<Option<Sent>, AgentFault> {
+    fn answer(&self, bytes: &[u8], outcome: &Outcome) -> Result<Option<Sent>, AgentFault>
+        ensures { IfOk result (λ r. IfSome r IsDirect) }
+    {
         let redirects = match outcome {
             Outcome::NotLeader { .. } => true,
             Outcome::TooLarge { .. }
@@ -103,6 +107,8 @@ impl<D: Disk> Agent<D> {
         requires whole { IsTrue self.old.is_whole }
         requires room { HasRoom self.old.core.values self.old.disk.kept event }
         ensures services { self.new.services ≡ self.old.services }
+        ensures base { self.new.base ≡ self.old.base }
+        ensures role { self.new.role ≡ self.old.role }
         ensures consumed { self.new.module.consumed ≡ self.old.module.consumed }
         ensures values { self.new.core.values ≡ self.old.core.values }
         ensures over { self.new.over ≡ self.old.over }
@@ -149,18 +155,22 @@ impl<D: Disk> Agent<D> {
     }
 
     /// Does what was decided, and gives the outcome.
-    #[tactic(auto, using(crate::proofs::Sounding::kept_sound, crate::proofs::Orders::done_refuse, crate::proofs::Orders::done_alive, crate::proofs::Orders::done_append, crate::proofs::Orders::room_for))]
+    #[tactic(auto, using(crate::proofs::Sounding::kept_sound, crate::proofs::Orders::done_refuse, crate::proofs::Orders::done_alive, crate::proofs::Orders::done_append, crate::proofs::Orders::nothing_new, crate::proofs::Orders::room_for))]
     fn carry_out(&mut self, decided: Decided, now: u64) -> Result<Outcome, AgentFault>
         requires whole { IsTrue self.old.is_whole }
         requires room { HasRoomFor decided self.old.core.values self.old.disk.kept }
         ensures services { self.new.services ≡ self.old.services }
+        ensures base { self.new.base ≡ self.old.base }
+        ensures role { self.new.role ≡ self.old.role }
         ensures consumed { self.new.module.consumed ≡ self.old.module.consumed }
         ensures values { self.new.core.values ≡ self.old.core.values }
         ensures over { self.new.over ≡ self.old.over }
         ensures whole { OnOk result (IsTrue self.new.is_whole) }
-        ensures done { IfOk result (λ o. IsDone decided o self.old.disk.kept self.new.disk.kept self.old.module self.new.module) }
+        ensures done { IfOk result (λ o. IsDone decided now o self.old.disk.kept self.new.disk.kept self.old.module self.new.module) }
         ensures stays { OnErr result (IsKept self.old.disk.kept.node self.old.disk.kept.log self.new.disk.kept) }
         ensures early { OnErr result (IsTrue self.new.is_whole → self.new.disk ≡ self.old.disk) }
+        ensures untouched { IfOk result (λ o. OnNothingNew o (self.new.disk ≡ self.old.disk)) }
+        ensures core { IfOk result (λ o. OnNothingNew o (self.new.core ≡ self.old.core)) }
     {
         match decided {
             Decided::Refuse(outcome) => Ok(outcome),
@@ -182,11 +192,16 @@ impl<D: Disk> Agent<D> {
     pub fn client(&mut self, bytes: &[u8], now: u64) -> Result<(Outcome, Option<Sent>), AgentFault>
         requires { now ≤ 2 ^ 60 }
         ensures services { self.new.services ≡ self.old.services }
+        ensures base { self.new.base ≡ self.old.base }
+        ensures role { self.new.role ≡ self.old.role }
         ensures consumed { self.new.module.consumed ≡ self.old.module.consumed }
         ensures values { self.new.core.values ≡ self.old.core.values }
         ensures over { self.new.over ≡ self.old.over }
         ensures whole { OnOk result (IsTrue self.new.is_whole) }
         ensures took { IfOk result (λ r. TookClient self.old.core.values bytes.now now r.0 self.old.disk.kept self.new.disk.kept self.old.module self.new.module) }
+        ensures untouched { IfOk result (λ r. OnNothingNew r.0 (self.new.disk ≡ self.old.disk)) }
+        ensures core { IfOk result (λ r. OnNothingNew r.0 (self.new.core ≡ self.old.core)) }
+        ensures direct { IfOk result (λ r. IfSome r.1 IsDirect) }
         ensures leaves { IfOk result (λ r. Leaves r.0 self.old.core.values.election.term self.old.disk.kept self.new.disk.kept) }
         ensures stays { OnErr result (IsKept self.old.disk.kept.node self.old.disk.kept.log self.new.disk.kept) }
         ensures early { OnErr result (IsTrue self.new.is_whole → self.new.disk ≡ self.old.disk) }
@@ -208,11 +223,15 @@ impl<D: Disk> Agent<D> {
     pub fn action(&mut self, now: u64) -> Result<Outcome, AgentFault>
         requires { now ≤ 2 ^ 60 }
         ensures services { self.new.services ≡ self.old.services }
+        ensures base { self.new.base ≡ self.old.base }
+        ensures role { self.new.role ≡ self.old.role }
         ensures consumed { self.new.module.consumed ≡ self.old.module.consumed }
         ensures values { self.new.core.values ≡ self.old.core.values }
         ensures over { self.new.over ≡ self.old.over }
         ensures whole { OnOk result (IsTrue self.new.is_whole) }
         ensures took { IfOk result (λ o. TookAction self.old.core.values now o self.old.disk.kept self.new.disk.kept self.old.module self.new.module) }
+        ensures untouched { IfOk result (λ o. OnNothingNew o (self.new.disk ≡ self.old.disk)) }
+        ensures core { IfOk result (λ o. OnNothingNew o (self.new.core ≡ self.old.core)) }
         ensures leaves { IfOk result (λ o. Leaves o self.old.core.values.election.term self.old.disk.kept self.new.disk.kept) }
         ensures stays { OnErr result (IsKept self.old.disk.kept.node self.old.disk.kept.log self.new.disk.kept) }
         ensures early { OnErr result (IsTrue self.new.is_whole → self.new.disk ≡ self.old.disk) }

@@ -26,6 +26,8 @@ impl<D: Disk> Agent<D> {
         ensures core { self.new.core ≡ self.old.core }
         ensures module { self.new.module ≡ self.old.module }
         ensures services { self.new.services ≡ self.old.services }
+        ensures base { self.new.base ≡ self.old.base }
+        ensures role { self.new.role ≡ self.old.role }
         ensures over { self.new.over ≡ self.old.over }
         ensures whole { self.new.is_whole ≡ self.old.is_whole }
     {
@@ -65,6 +67,8 @@ impl<D: Disk> Agent<D> {
         ensures core { self.new.core ≡ self.old.core }
         ensures module { self.new.module ≡ self.old.module }
         ensures services { self.new.services ≡ self.old.services }
+        ensures base { self.new.base ≡ self.old.base }
+        ensures role { self.new.role ≡ self.old.role }
         ensures over { self.new.over ≡ self.old.over }
         ensures whole { self.new.is_whole ≡ self.old.is_whole }
     {

@@ -1,6 +1,9 @@
 // How a member starts from its disk.
-ghost use Rattle.std.specs.Prelude.{◌≡◌, true, false, ◌<◌, ◌≤◌, ◌^◌, pos, negsuc, ◌≤ℤ◌, [], length, unwrap_or, IsTrue, IfOk, OnOk};
+ghost use Rattle.std.specs.Prelude.{◌≡◌, true, false, ◌<◌, ◌≤◌, ◌^◌, pos, negsuc, ◌≤ℤ◌, [], length, ◌∷◌, ◌++◌, unwrap_or, IsTrue, IfOk, OnOk, MatchResult};
+ghost use Rattle.log_segment.specs.Held.{IsHeld};
 ghost use Rattle.member_disk.specs.Changes.{HasSome};
+ghost use Rattle.member_disk.specs.Kept.{Kept, EachStands, IsSettled, ReadsLike};
+ghost use Rattle.consensus_agent.specs.Disks.{HasTerms, Looked};
 ghost use Rattle.snapshot_pieces.specs.Pieces.{IsOrigin};
 ghost use Rattle.service_phases.specs.Pairs.{Each};
 ghost use Rattle.service_phases.specs.Phases.{IsAt};
@@ -8,10 +11,10 @@ ghost use Rattle.service_phases.specs.Stages.{IsIdle};
 ghost use Rattle.consensus_agent.specs.Phases.{stage};
 ghost use Rattle.consensus_core.specs.Fit.{IsTerm, started};
 ghost use Rattle.consensus_agent.specs.Sound.{HasAhead};
-ghost use Rattle.consensus_agent.specs.Starts.{IsStart};
+ghost use Rattle.consensus_agent.specs.Starts.{IsNew, IsStart};
 
 use crate::agent::Agent;
-use cl_base::{Disk, MemberFault, NoMemory};
+use cl_base::{Disk, Entry, MemberFault, NoMemory};
 use commit_counter::Role;
 use consensus_core::Core;
 use member_disk::{Durable, MemberDisk, SetEntry};
@@ -61,11 +64,13 @@ fn has_set(durable: &Durable) -> bool
 }
 
 /// The snapshot of a service, or of the module (-1), in the latest valid set.
+#[tactic(auto, using(crate::proofs::Disking::looked_none))]
 fn set_of<D: Disk>(disk: &mut MemberDisk<D>, service: i32) -> Result<SetEntry, MemberFault>
     requires low { negsuc 0 ≤ℤ service }
     requires high { service ≤ℤ pos 2 }
     requires whole { IsTrue disk.old.whole }
     ensures kept { disk.new.kept ≡ disk.old.kept }
+    ensures looked { Looked D.state D.tells D.is_honest disk.old disk.new }
     ensures whole { IsTrue disk.new.whole }
     ensures recording { IfOk result (λ e. e.recording < 1024) }
     ensures origin { IfOk result (λ e. IsOrigin (record { service = service; position = e.position; term = e.term })) }
@@ -94,6 +99,7 @@ fn fresh_services(alloc: Global, kinds: &[Kind]) -> Result<Vec<Container>, NoMem
 }
 
 /// The services and the module before any entry.
+#[tactic(auto, using(crate::proofs::Starting::new_first))]
 fn fresh(alloc: Global, kinds: &[Kind]) -> Result<Start, NoMemory>
     requires { length kinds.now ≤ 3 }
     ensures start { IfOk result IsStart }
@@ -109,7 +115,7 @@ fn fresh(alloc: Global, kinds: &[Kind]) -> Result<Start, NoMemory>
     })
 }
 
-#[tactic(auto, using(crate::proofs::Phasing::each_push, crate::proofs::Phasing::begun_at))]
+#[tactic(auto, using(crate::proofs::Phasing::each_push, crate::proofs::Phasing::begun_at, crate::proofs::Disking::looked_none, crate::proofs::Disking::looked_more))]
 /// The services of the latest valid set of snapshots, which go on at an entry.
 fn restored_services<D: Disk>(
     alloc: Global,
@@ -121,6 +127,7 @@ fn restored_services<D: Disk>(
     requires whole { IsTrue disk.old.whole }
     ensures services { IfOk result (λ cs. Each (IsAt (unwrap_or entries 0)) cs.items) }
     ensures kept { disk.new.kept ≡ disk.old.kept }
+    ensures looked { Looked D.state D.tells D.is_honest disk.old disk.new }
     ensures whole { IsTrue disk.new.whole }
 {
     let mut containers = Vec::new(alloc);
@@ -137,7 +144,7 @@ fn restored_services<D: Disk>(
 }
 
 /// The services and the module of the latest valid set of snapshots.
-#[tactic(auto, using(crate::proofs::Entries::length_shape, crate::proofs::Sounding::few))]
+#[tactic(auto, using(crate::proofs::Entries::length_shape, crate::proofs::Sounding::few, crate::proofs::Starting::new_first, crate::proofs::Disking::looked_more))]
 fn restored<D: Disk>(
     alloc: Global,
     kinds: &[Kind],
@@ -150,6 +157,7 @@ fn restored<D: Disk>(
     ensures within { IfOk result (λ s. s.base ≤ length disk.old.kept.log) }
     ensures none { IfOk result (λ s. s.module.ahead.entries ≡ []) }
     ensures kept { disk.new.kept ≡ disk.old.kept }
+    ensures looked { Looked D.state D.tells D.is_honest disk.old disk.new }
     ensures whole { IsTrue disk.new.whole }
 {
     let count = disk.index().entries_to(latest.position);
@@ -167,8 +175,22 @@ fn restored<D: Disk>(
     })
 }
 
+/// The module has one more entry ahead.
+#[tactic(auto, using(crate::proofs::Starting::new_more))]
+fn take_one(module: &mut MemberModule, entry: Entry) -> Result<(), MemberFault>
+    requires { IsNew module.old }
+    ensures consumed { module.new.consumed ≡ module.old.consumed }
+    ensures entries { OnOk result (module.new.ahead.entries ≡ module.old.ahead.entries ++ entry ∷ []) }
+    ensures fresh { OnOk result (IsNew module.new) }
+{
+    match module.append(entry) {
+        Ok(()) => Ok(()),
+        Err(NoMemory) => Err(MemberFault::NoMemory),
+    }
+}
+
 /// The module has the log's entries past what it consumed ahead.
-#[tactic(auto, using(crate::proofs::Entries::length_shape))]
+#[tactic(auto, using(crate::proofs::Entries::length_shape, crate::proofs::Disking::looked_none))]
 fn read_ahead<D: Disk>(
     disk: &mut MemberDisk<D>,
     module: &mut MemberModule,
@@ -176,22 +198,24 @@ fn read_ahead<D: Disk>(
     requires whole { IsTrue disk.old.whole }
     requires within { module.old.consumed ≤ length disk.old.kept.log }
     requires none { module.old.ahead.entries ≡ [] }
+    requires fresh { IsNew module.old }
     ensures consumed { module.new.consumed ≡ module.old.consumed }
+    ensures fresh { OnOk result (IsNew module.new) }
     ensures kept { disk.new.kept ≡ disk.old.kept }
+    ensures looked { Looked D.state D.tells D.is_honest disk.old disk.new }
     ensures whole { IsTrue disk.new.whole }
     ensures ahead { OnOk result (HasAhead module.new disk.new.kept.log) }
 {
     let entries = disk.index().entries();
     for index in module.consumed()..entries {
         let entry = disk.read(index)?;
-        if module.append(entry).is_err() {
-            return Err(MemberFault::NoMemory);
-        }
+        take_one(module, entry)?;
     }
     Ok(())
 }
 
 /// What a member starts from, with the log's entries past the snapshot.
+#[tactic(auto, using(crate::proofs::Disking::looked_none, crate::proofs::Disking::looked_more))]
 fn begin<D: Disk>(
     alloc: Global,
     kinds: &[Kind],
@@ -203,6 +227,7 @@ fn begin<D: Disk>(
     ensures within { IfOk result (λ s. s.base ≤ length disk.new.kept.log) }
     ensures ahead { IfOk result (λ s. HasAhead s.module disk.new.kept.log) }
     ensures kept { disk.new.kept ≡ disk.old.kept }
+    ensures looked { Looked D.state D.tells D.is_honest disk.old disk.new }
     ensures whole { IsTrue disk.new.whole }
 {
     let latest = match disk.durable().sets().last() {
@@ -248,11 +273,19 @@ impl<D: Disk> Agent<D> {
         requires id { id < members }
         requires some { 1 ≤ length kinds.now }
         requires few { length kinds.now ≤ 3 }
+        ensures tells { MatchResult result (λ a. D.tells a.disk.disk ≡ D.tells disk) (λ e. D.tells e.0 ≡ D.tells disk) }
+        ensures honest { MatchResult result (λ a. D.is_honest a.disk.disk ≡ D.is_honest disk) (λ e. D.is_honest e.0 ≡ D.is_honest disk) }
         ensures core { IfOk result (λ a. a.core ≡ started id members a.disk.kept.node.term a.disk.kept.node.voted a.base) }
-        ensures services { IfOk result (λ a. a.disk.kept.services ≡ length kinds.now) }
-        ensures within { IfOk result (λ a. a.base ≤ length a.disk.kept.log) }
         ensures role { IfOk result (λ a. a.role ≡ Role.Follower) }
         ensures over { IfOk result (λ a. a.over ≡ false) }
+        ensures within { IfOk result (λ a. a.base ≤ length a.disk.kept.log) }
+        ensures fresh { IfOk result (λ a. IsNew a.module) }
+        // What the disk stood for is kept, and nothing else: where a crash before would leave what a read gives, each image
+        // stands for it then.
+        ensures services { IfOk result (λ a. a.disk.kept.services ≡ length kinds.now) }
+        ensures terms { IfOk result (λ a. HasTerms a.disk.kept) }
+        ensures once { IsTrue (D.tells disk) → (kept : Kept) → ReadsLike kept (D.state disk).files → IsHeld kept.log → kept.services ≡ length kinds.now → IfOk result (λ a. a.disk.kept ≡ kept) }
+        ensures settled { IsTrue (D.is_honest disk) → IsSettled (D.state disk).files → IfOk result (λ a. EachStands a.disk.kept (D.state a.disk.disk).files) }
         ensures idle { IfOk result (λ a. IsIdle (stage a.services a.module a.core a.over)) }
         ensures based { IfOk result (λ a. a.module.consumed ≡ a.base) }
         ensures whole { IfOk result (λ a. IsTrue a.is_whole) }

@@ -13,12 +13,16 @@ ghost use Rattle.consensus_core.specs.Member.{is_ready as leads};
 ghost use Rattle.consensus_core.specs.Standing.{CanFollow, Standing};
 ghost use Rattle.consensus_agent.specs.Rows.{CutRow, IsSpoken, Made, RowRan, due_to};
 ghost use Rattle.consensus_agent.specs.Delivered.{OnBad, RanPacket, TellsBad};
+ghost use Rattle.cl_base.specs.Looks.{Same};
+ghost use Rattle.consensus_agent.specs.Disks.{Done, Looked, Went};
+ghost use Rattle.consensus_agent.specs.Taken.{HasTaken, IsTaken, RowTaken, begins_reign};
+ghost use Rattle.module_state.specs.Entries.{events_in};
 ghost use Rattle.consensus_agent.specs.Sound.{CanChange, CanRun, HasAhead, ends_phase, is_cut};
 
 use crate::agent::Agent;
 use crate::changes::{append, cut, raise};
 use crate::fault::AgentFault;
-use crate::reads::{are_read, read_ranges};
+use crate::reads::read_ranges;
 use cl_base::{Disk, Entry, List, NoMemory};
 use consensus_core::{Change, Core};
 use entry_log::LogIndex;
@@ -56,9 +60,12 @@ fn speak(
 }
 
 /// The module has these entries ahead.
+#[tactic(auto, using(crate::proofs::Taking::events_push))]
 fn take_all(module: &mut MemberModule, entries: List<Entry>) -> Result<(), NoMemory>
     ensures consumed { module.new.consumed ≡ module.old.consumed }
     ensures entries { OnOk result (module.new.ahead.entries ≡ module.old.ahead.entries ++ entries) }
+    ensures events { OnOk result (module.new.ahead.events ≡ module.old.ahead.events ++ events_in entries) }
+    ensures rest { module.new ≡ record module.old { ahead = module.new.ahead; latest = module.new.latest } }
 {
     for entry in entries.into_vec() {
         module.append(entry)?;
@@ -68,7 +75,7 @@ fn take_all(module: &mut MemberModule, entries: List<Entry>) -> Result<(), NoMem
 
 impl<D: Disk> Agent<D> {
     /// Makes a row's change on the disk, and of what is kept of the log.
-    #[tactic(auto, using(crate::proofs::Ahead::ahead_grown, crate::proofs::Ahead::ahead_cut))]
+    #[tactic(auto, using(crate::proofs::Ahead::ahead_grown, crate::proofs::Ahead::ahead_cut, crate::proofs::Taking::took_nothing, crate::proofs::Taking::took_raise, crate::proofs::Taking::took_cut, crate::proofs::Disking::went_none, crate::proofs::Disking::done_none))]
     fn make(&mut self, change: Change) -> Result<(), AgentFault>
         requires open { self.old.is_whole ≡ false }
         requires whole { IsTrue self.old.disk.whole }
@@ -78,11 +85,16 @@ impl<D: Disk> Agent<D> {
         ensures cut { OnErr result (CutRow change self.old.disk.kept self.new.disk.kept) }
         ensures core { self.new.core ≡ self.old.core }
         ensures services { self.new.services ≡ self.old.services }
+        ensures base { self.new.base ≡ self.old.base }
+        ensures role { self.new.role ≡ self.old.role }
         ensures consumed { self.new.module.consumed ≡ self.old.module.consumed }
         ensures open { self.new.is_whole ≡ false }
         ensures whole { OnOk result (IsTrue self.new.disk.whole) }
         ensures ahead { OnOk result (HasAhead self.new.module self.new.disk.kept.log) }
         ensures over { OnOk result (self.new.over ≡ (self.old.over || is_cut change)) }
+        ensures taken { OnOk result (HasTaken change false 0 self.old.module self.new.module) }
+        ensures went { Went D.state D.tells D.is_honest change self.old.disk self.new.disk }
+        ensures done { OnOk result (Done D.state D.tells D.is_honest change self.old.disk self.new.disk) }
     {
         match change {
             Change::Nothing => Ok(()),
@@ -97,7 +109,7 @@ impl<D: Disk> Agent<D> {
         }
     }
 
-    #[tactic(auto, using(crate::proofs::Ahead::ahead_grown))]
+    #[tactic(auto, using(crate::proofs::Ahead::ahead_grown, crate::proofs::Taking::took_entries))]
     fn append_all(&mut self, entries: List<Entry>) -> Result<(), AgentFault>
         requires open { self.old.is_whole ≡ false }
         requires whole { IsTrue self.old.disk.whole }
@@ -107,11 +119,16 @@ impl<D: Disk> Agent<D> {
         ensures cut { OnErr result (CutRow (Change.Append entries) self.old.disk.kept self.new.disk.kept) }
         ensures core { self.new.core ≡ self.old.core }
         ensures services { self.new.services ≡ self.old.services }
+        ensures base { self.new.base ≡ self.old.base }
+        ensures role { self.new.role ≡ self.old.role }
         ensures consumed { self.new.module.consumed ≡ self.old.module.consumed }
         ensures open { self.new.is_whole ≡ false }
         ensures whole { OnOk result (IsTrue self.new.disk.whole) }
         ensures ahead { OnOk result (HasAhead self.new.module self.new.disk.kept.log) }
         ensures over { self.new.over ≡ self.old.over }
+        ensures taken { OnOk result (HasTaken (Change.Append entries) false 0 self.old.module self.new.module) }
+        ensures went { Went D.state D.tells D.is_honest (Change.Append entries) self.old.disk self.new.disk }
+        ensures done { OnOk result (Done D.state D.tells D.is_honest (Change.Append entries) self.old.disk self.new.disk) }
     {
         append(&mut self.disk, entries.as_slice())?;
         take_all(&mut self.module, entries)?;
@@ -119,15 +136,19 @@ impl<D: Disk> Agent<D> {
     }
 
     /// The packets of the row just run, whose change is on the disk.
-    #[tactic(auto, using(crate::proofs::Sounding::term_low, crate::proofs::Sounding::bound_of))]
+    #[tactic(auto, using(crate::proofs::Sounding::term_low, crate::proofs::Sounding::bound_of, crate::proofs::Disking::looked_none))]
     fn send(&mut self) -> Result<List<Outgoing>, AgentFault>
         requires open { self.old.is_whole ≡ false }
         requires whole { IsTrue self.old.disk.whole }
         requires stands { Standing self.old.core.values (shape_of self.old.disk.kept.log) }
-        ensures sent { IfOk result (IsSpoken self.old.core (shape_of self.old.disk.kept.log)) }
+        ensures sent { IfOk result (IsSpoken (D.tells self.old.disk.disk) self.old.core self.old.disk.kept.log) }
         ensures values { OnOk result (self.new.core.values ≡ self.old.core.values) }
         ensures disk { self.new.disk.kept ≡ self.old.disk.kept }
+        ensures looked { Looked D.state D.tells D.is_honest self.old.disk self.new.disk }
+        ensures same { IsTrue (D.tells self.old.disk.disk) → OnOk result (Same (D.state self.old.disk.disk) (D.state self.new.disk.disk)) }
         ensures services { self.new.services ≡ self.old.services }
+        ensures base { self.new.base ≡ self.old.base }
+        ensures role { self.new.role ≡ self.old.role }
         ensures module { self.new.module ≡ self.old.module }
         ensures over { self.new.over ≡ self.old.over }
         ensures open { self.new.is_whole ≡ false }
@@ -136,9 +157,6 @@ impl<D: Disk> Agent<D> {
     {
         let ranges = self.core.wanted(self.disk.index())?;
         let batches = read_ranges(self.alloc, &mut self.disk, ranges.as_slice())?;
-        if !are_read(ranges.as_slice(), batches.as_slice()) {
-            return Err(AgentFault::NoMemory);
-        }
         let packets = speak(
             &mut self.core,
             self.disk.index(),
@@ -149,15 +167,19 @@ impl<D: Disk> Agent<D> {
     }
 
     /// What becoming ready to lead, or no longer leading, means for the module and the phase.
+    #[tactic(auto, using(crate::proofs::Taking::took_rest, crate::proofs::Taking::took_on, crate::proofs::Taking::took_reign))]
     fn settle(&mut self, was_ready: bool, now: u64)
         requires open { self.old.is_whole ≡ false }
         ensures core { self.new.core ≡ self.old.core }
         ensures disk { self.new.disk ≡ self.old.disk }
         ensures services { self.new.services ≡ self.old.services }
+        ensures base { self.new.base ≡ self.old.base }
+        ensures role { self.new.role ≡ self.old.role }
         ensures consumed { self.new.module.consumed ≡ self.old.module.consumed }
         ensures ahead { self.new.module.ahead ≡ self.old.module.ahead }
         ensures over { self.new.over ≡ (self.old.over || (leads self.old.core.values.election.state && not was_ready)) }
         ensures open { self.new.is_whole ≡ false }
+        ensures taken { HasTaken Change.Nothing (begins_reign was_ready (leads self.old.core.values.election.state)) now self.old.module self.new.module }
     {
         if !self.is_ready() {
             self.module.rest();
@@ -182,12 +204,17 @@ impl<D: Disk> Agent<D> {
         ensures made { OnOk result (Made change self.old.disk.kept self.new.disk.kept) }
         ensures cut { OnErr result (CutRow change self.old.disk.kept self.new.disk.kept) }
         ensures values { OnOk result (self.new.core.values ≡ self.old.core.values) }
-        ensures sent { IfOk result (IsSpoken self.old.core (shape_of self.new.disk.kept.log)) }
+        ensures sent { IfOk result (IsSpoken (D.tells self.old.disk.disk) self.old.core self.new.disk.kept.log) }
         ensures services { self.new.services ≡ self.old.services }
+        ensures base { self.new.base ≡ self.old.base }
+        ensures role { self.new.role ≡ self.old.role }
         ensures consumed { self.new.module.consumed ≡ self.old.module.consumed }
         ensures over { OnOk result (self.new.over ≡ (self.old.over || ends_phase was_ready change self.old.core.values.election.state)) }
         ensures whole { OnOk result (IsTrue self.new.is_whole) }
         ensures bound { OnOk result (self.old.core.values.rest.commit ≤ 16777216) }
+        ensures went { Went D.state D.tells D.is_honest change self.old.disk self.new.disk }
+        ensures done { OnOk result (Done D.state D.tells D.is_honest change self.old.disk self.new.disk) }
+        ensures taken { OnOk result (IsTaken change was_ready self.old.core.values now self.old.module self.new.module self.old.over self.new.over) }
     {
         self.make(change)?;
         self.settle(was_ready, now);
@@ -197,19 +224,24 @@ impl<D: Disk> Agent<D> {
     }
 
     /// Takes a packet: its row's change, and then its packets.
-    #[tactic(auto, using(crate::proofs::Sounding::packet_runs))]
+    #[tactic(auto, using(crate::proofs::Sounding::packet_runs, crate::proofs::Disking::went_none))]
     fn take_packet(&mut self, packet: &Packet, now: u64) -> Result<List<Outgoing>, AgentFault>
         requires whole { IsTrue self.old.is_whole }
         requires now { now ≤ 2 ^ 60 }
         requires spelled { HasSpelling packet.now }
-        ensures row { IfOk result (RowRan (receives self.old.core.values (shape_of self.old.disk.kept.log) packet.now now) self.old.disk.kept self.new.disk.kept self.new.core.values) }
+        ensures row { IfOk result (RowRan (D.tells self.old.disk.disk) (receives self.old.core.values (shape_of self.old.disk.kept.log) packet.now now) self.old.disk.kept self.new.disk.kept self.new.core.values) }
         ensures cut { OnErr result (CutRow (receives self.old.core.values (shape_of self.old.disk.kept.log) packet.now now).change self.old.disk.kept self.new.disk.kept) }
         ensures services { self.new.services ≡ self.old.services }
+        ensures base { self.new.base ≡ self.old.base }
+        ensures role { self.new.role ≡ self.old.role }
         ensures consumed { self.new.module.consumed ≡ self.old.module.consumed }
         ensures rises { OnOk result (self.old.core.values.rest.commit ≤ self.new.core.values.rest.commit) }
         ensures bound { OnOk result (self.new.core.values.rest.commit ≤ 16777216) }
         ensures over { OnOk result (self.new.over ≡ true → self.old.over ≡ false → self.new.core.values.rest.commit ≡ self.old.core.values.rest.commit) }
         ensures whole { OnOk result (IsTrue self.new.is_whole) }
+        ensures went { Went D.state D.tells D.is_honest (receives self.old.core.values (shape_of self.old.disk.kept.log) packet.now now).change self.old.disk self.new.disk }
+        ensures done { OnOk result (Done D.state D.tells D.is_honest (receives self.old.core.values (shape_of self.old.disk.kept.log) packet.now now).change self.old.disk self.new.disk) }
+        ensures taken { OnOk result (RowTaken (receives self.old.core.values (shape_of self.old.disk.kept.log) packet.now now) self.old.core.values now self.old.module self.new.module self.old.over self.new.over) }
     {
         let was_ready = self.is_ready();
         let change = self.core.on_packet(self.disk.index(), packet, now)?;
@@ -219,12 +251,17 @@ impl<D: Disk> Agent<D> {
 
     /// Takes a packet at `now` (ms, at most 2^60): its row's change, and then its packets. Bytes that are no packet
     /// change nothing.
-    #[tactic(auto, using(crate::proofs::Sounding::sound_bound))]
+    #[tactic(auto, using(crate::proofs::Sounding::sound_bound, crate::proofs::Disking::went_none))]
     pub fn deliver(&mut self, bytes: &[u8], now: u64) -> Result<Delivered, AgentFault>
         requires { now ≤ 2 ^ 60 }
-        ensures row { (p : Packet) → HasSpelling p → spelling_of p ≡ bytes.now → IfOk result (RanPacket (receives self.old.core.values (shape_of self.old.disk.kept.log) p now) self.old.disk.kept self.new.disk.kept self.new.core.values) }
+        ensures row { (p : Packet) → HasSpelling p → spelling_of p ≡ bytes.now → IfOk result (RanPacket (D.tells self.old.disk.disk) (receives self.old.core.values (shape_of self.old.disk.kept.log) p now) self.old.disk.kept self.new.disk.kept self.new.core.values) }
         ensures cut { (p : Packet) → HasSpelling p → spelling_of p ≡ bytes.now → OnErr result (CutRow (receives self.old.core.values (shape_of self.old.disk.kept.log) p now).change self.old.disk.kept self.new.disk.kept) }
+        ensures went { (p : Packet) → HasSpelling p → spelling_of p ≡ bytes.now → Went D.state D.tells D.is_honest (receives self.old.core.values (shape_of self.old.disk.kept.log) p now).change self.old.disk self.new.disk }
+        ensures done { (p : Packet) → HasSpelling p → spelling_of p ≡ bytes.now → OnOk result (Done D.state D.tells D.is_honest (receives self.old.core.values (shape_of self.old.disk.kept.log) p now).change self.old.disk self.new.disk) }
+        ensures taken { (p : Packet) → HasSpelling p → spelling_of p ≡ bytes.now → OnOk result (RowTaken (receives self.old.core.values (shape_of self.old.disk.kept.log) p now) self.old.core.values now self.old.module self.new.module self.old.over self.new.over) }
         ensures services { self.new.services ≡ self.old.services }
+        ensures base { self.new.base ≡ self.old.base }
+        ensures role { self.new.role ≡ self.old.role }
         ensures consumed { self.new.module.consumed ≡ self.old.module.consumed }
         ensures rises { OnOk result (self.old.core.values.rest.commit ≤ self.new.core.values.rest.commit) }
         ensures bound { self.old.core.values.rest.commit < 2 ^ 62 → OnOk result (self.new.core.values.rest.commit < 2 ^ 62) }
@@ -253,12 +290,15 @@ impl<D: Disk> Agent<D> {
         ensures core { self.new.core ≡ self.old.core }
         ensures disk { self.new.disk ≡ self.old.disk }
         ensures services { self.new.services ≡ self.old.services }
+        ensures base { self.new.base ≡ self.old.base }
+        ensures role { self.new.role ≡ self.old.role }
         ensures consumed { self.new.module.consumed ≡ self.old.module.consumed }
         ensures due { IfOk result (λ es. leads self.old.core.values.election.state ≡ true → es ≡ due_to self.old.module self.old.core.values.election.term now) }
         ensures spelled { IfOk result (λ es. All IsEvent es) }
         ensures term { IfOk result (λ es. All (λ e. term_of e ≡ self.old.core.values.election.term) es) }
         ensures over { self.new.over ≡ self.old.over }
         ensures whole { self.new.is_whole ≡ self.old.is_whole }
+        ensures module { self.new.module ≡ record self.old.module { latest = self.new.module.latest } }
     {
         let term = self.core.term();
         if !self.is_ready() {
@@ -268,20 +308,25 @@ impl<D: Disk> Agent<D> {
     }
 
     /// The duty of its state, with these due events.
-    #[tactic(auto, using(crate::proofs::Sounding::duty_runs))]
+    #[tactic(auto, using(crate::proofs::Sounding::duty_runs, crate::proofs::Disking::went_none))]
     fn do_duty(&mut self, due: &[Event], now: u64) -> Result<List<Outgoing>, AgentFault>
         requires whole { IsTrue self.old.is_whole }
         requires now { now ≤ 2 ^ 60 }
         requires due { All IsEvent due.now }
         requires term { All (λ e. term_of e ≡ self.old.core.values.election.term) due.now }
-        ensures row { IfOk result (RowRan (does_duty self.old.core.values (shape_of self.old.disk.kept.log) due.now now) self.old.disk.kept self.new.disk.kept self.new.core.values) }
+        ensures row { IfOk result (RowRan (D.tells self.old.disk.disk) (does_duty self.old.core.values (shape_of self.old.disk.kept.log) due.now now) self.old.disk.kept self.new.disk.kept self.new.core.values) }
         ensures cut { OnErr result (CutRow (does_duty self.old.core.values (shape_of self.old.disk.kept.log) due.now now).change self.old.disk.kept self.new.disk.kept) }
         ensures services { self.new.services ≡ self.old.services }
+        ensures base { self.new.base ≡ self.old.base }
+        ensures role { self.new.role ≡ self.old.role }
         ensures consumed { self.new.module.consumed ≡ self.old.module.consumed }
         ensures rises { OnOk result (self.old.core.values.rest.commit ≤ self.new.core.values.rest.commit) }
         ensures bound { OnOk result (self.new.core.values.rest.commit ≤ 16777216) }
         ensures over { OnOk result (self.new.over ≡ true → self.old.over ≡ false → self.new.core.values.rest.commit ≡ self.old.core.values.rest.commit) }
         ensures whole { OnOk result (IsTrue self.new.is_whole) }
+        ensures went { Went D.state D.tells D.is_honest (does_duty self.old.core.values (shape_of self.old.disk.kept.log) due.now now).change self.old.disk self.new.disk }
+        ensures done { OnOk result (Done D.state D.tells D.is_honest (does_duty self.old.core.values (shape_of self.old.disk.kept.log) due.now now).change self.old.disk self.new.disk) }
+        ensures taken { OnOk result (RowTaken (does_duty self.old.core.values (shape_of self.old.disk.kept.log) due.now now) self.old.core.values now self.old.module self.new.module self.old.over self.new.over) }
     {
         let was_ready = self.is_ready();
         let change = self.core.on_duty(self.disk.index(), due, now)?;
@@ -291,12 +336,17 @@ impl<D: Disk> Agent<D> {
 
     /// The duty of its state, at `now` (ms, at most 2^60), with what is due where it is ready to lead: its row's change, and
     /// then its packets.
-    #[tactic(auto, using(crate::proofs::Due::cut_none))]
+    #[tactic(auto, using(crate::proofs::Due::cut_none, crate::proofs::Disking::went_none))]
     pub fn duty(&mut self, now: u64) -> Result<List<Outgoing>, AgentFault>
         requires { now ≤ 2 ^ 60 }
-        ensures row { IfOk result (RowRan (does_duty self.old.core.values (shape_of self.old.disk.kept.log) (due_to self.old.module self.old.core.values.election.term now) now) self.old.disk.kept self.new.disk.kept self.new.core.values) }
+        ensures row { IfOk result (RowRan (D.tells self.old.disk.disk) (does_duty self.old.core.values (shape_of self.old.disk.kept.log) (due_to self.old.module self.old.core.values.election.term now) now) self.old.disk.kept self.new.disk.kept self.new.core.values) }
         ensures cut { OnErr result (CutRow (does_duty self.old.core.values (shape_of self.old.disk.kept.log) (due_to self.old.module self.old.core.values.election.term now) now).change self.old.disk.kept self.new.disk.kept) }
+        ensures went { Went D.state D.tells D.is_honest (does_duty self.old.core.values (shape_of self.old.disk.kept.log) (due_to self.old.module self.old.core.values.election.term now) now).change self.old.disk self.new.disk }
+        ensures done { OnOk result (Done D.state D.tells D.is_honest (does_duty self.old.core.values (shape_of self.old.disk.kept.log) (due_to self.old.module self.old.core.values.election.term now) now).change self.old.disk self.new.disk) }
+        ensures taken { OnOk result (RowTaken (does_duty self.old.core.values (shape_of self.old.disk.kept.log) (due_to self.old.module self.old.core.values.election.term now) now) self.old.core.values now self.old.module self.new.module self.old.over self.new.over) }
         ensures services { self.new.services ≡ self.old.services }
+        ensures base { self.new.base ≡ self.old.base }
+        ensures role { self.new.role ≡ self.old.role }
         ensures consumed { self.new.module.consumed ≡ self.old.module.consumed }
         ensures rises { OnOk result (self.old.core.values.rest.commit ≤ self.new.core.values.rest.commit) }
         ensures bound { self.old.core.values.rest.commit < 2 ^ 62 → OnOk result (self.new.core.values.rest.commit < 2 ^ 62) }

@@ -1,5 +1,6 @@
 -- The module's state on one member, as contracts see it.
-use Rattle.std.specs.Prelude.{◌≡◌, ℕ, ◌+◌, ◌-◌, ℤ, List, [], ◌∷◌, ◌++◌, take, drop, Option, Some, None, IfSome}
+use Rattle.std.specs.Prelude.{◌≡◌, ℕ, ℤ, if◌then◌else◌, List, [], ◌∷◌, ◌++◌, Option, Some, None, IfSome}
+use Rattle.std.specs.Ordering.{int_eq}
 use Rattle.cl_base.specs.declared.entry.Entry.{Entry}
 use Rattle.sbe_events.specs.declared.event.Event.{Event}
 use Rattle.sbe_events.specs.Spelling.{HasSpelling}
@@ -47,3 +48,8 @@ latest_of (Some t) m = t
 pub record Holds (m : Held) (xs : List Entry) (es : List Event) : Type 0 where
   pub entries : m.ahead.entries ≡ xs
   pub events : m.ahead.events ≡ es
+
+-- each session's last keep-alive after one of this session at this moment (ms)
+abbrev pub heard : ℤ → ℕ → List (ℤ × ℕ) → List (ℤ × ℕ)
+heard session now [] = (session, now) ∷ []
+heard session now (a ∷ rest) = if int_eq a.0 session then (session, now) ∷ rest else a ∷ heard session now rest

@@ -10,7 +10,7 @@ ghost use Rattle.module_state.specs.Owed.{owed_by_module};
 ghost use Rattle.module_state.specs.Outputs.{outputs_of};
 ghost use Rattle.module_state.specs.Entries.{events_in};
 ghost use Rattle.member_module.specs.Ahead.{event_in, AreEvents};
-ghost use Rattle.member_module.specs.Held.{Holds, at_end, brought_past, latest_of, with_coming};
+ghost use Rattle.member_module.specs.Held.{Holds, at_end, brought_past, heard, latest_of, with_coming};
 
 use crate::ahead::{Ahead, event_of};
 use crate::alive::hear;
@@ -124,7 +124,8 @@ impl MemberModule {
 
     /// A keep-alive of this session was accepted at `now` (ms).
     pub fn keep_alive(&mut self, session: i64, now: u64) -> Result<(), NoMemory>
-        ensures { self.new ≡ record self.old { alive = self.new.alive } }
+        ensures ok { OnOk result (self.new ≡ record self.old { alive = heard session now self.old.alive }) }
+        ensures err { OnErr result (self.new ≡ self.old) }
     {
         hear(&mut self.alive, session, now)?;
         Ok(())

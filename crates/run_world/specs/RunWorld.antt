@@ -16,6 +16,7 @@ use Rattle.module_state.specs.Logs.{due_in}
 use Rattle.module_state.specs.Module.{Module, tentative}
 use Rattle.module_state.specs.Places.{entry_of, stamp_of}
 use Rattle.module_state.specs.Services.{module_of}
+use Rattle.member_module.specs.Held.{heard}
 use Rattle.network.specs.Net.{NetSeen, quiet_net, sent, taken, coming, first_of, with_link_cut, lost_between, replayed}
 use Rattle.service_runs.specs.Hosts.{Rules, Output, longer, all_reach, sent_in}
 use Rattle.one_log.specs.Led.{admits, has_room}
@@ -85,11 +86,6 @@ abbrev pub may_ask : List Kind → Seat → ℕ → Event → Bool
 may_ask kinds s now e =
     int_eq (stamp_of e) (pos now)
     && (int_eq (term_of e) s.member.values.election.term && (admits (view_at kinds s) (place s.member.durable.log) e && has_room s.member.durable.log (entry_of e ∷ [])))
-
--- a keep-alive of a session is the last one
-abbrev pub heard : ℤ → ℕ → List (ℤ × ℕ) → List (ℤ × ℕ)
-heard session now [] = (session, now) ∷ []
-heard session now (a ∷ rest) = if int_eq a.0 session then (session, now) ∷ rest else a ∷ heard session now rest
 
 -- ---- what happens
 

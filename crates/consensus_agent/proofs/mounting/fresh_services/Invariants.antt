@@ -1,4 +1,3 @@
-use Rattle.std.specs.Prelude.{unwrap_or}
 use Rattle.service_phases.specs.Pairs.{Each}
 use Rattle.service_phases.specs.Phases.{IsAt}
 use Rattle.consensus_agent.proofs.mounting.fresh_services.Given as goal

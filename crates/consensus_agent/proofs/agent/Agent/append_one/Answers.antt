@@ -37,8 +37,10 @@ invariant_of-self-2 g c =
 
 pub returns-clause-appended : goal.returns-clause-appended
 returns-clause-appended g c =
+    let admissible : c.is_admissible.result ≡ true = search rules in
     let term : c.entry_with-entry.result.term ≡ c.args.self.now.core.values.election.term = search rules in
     appended c.entries-index.result c.args.self.now.core.values c.args.self.now.disk.kept c.append.new.disk.kept c.args.event c.entry_with-entry.result c.requires.room
+    (c.is_admissible.ensures admissible)
     (c.entries-index.ensures.count ∙ ap (λ (xs : Shape). length xs) c.index.ensures.index ∙ length_shape c.args.self.now.disk.kept.log)
     term
     (c.entry_with-entry.ensures.bytes ∙ c.in_ok-bytes.ensures.spelled)

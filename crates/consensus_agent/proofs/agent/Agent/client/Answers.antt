@@ -1,6 +1,6 @@
-use Rattle.std.proofs.Common.{◌≡◌, ap}
+use Rattle.std.proofs.Common.{ap}
 use Rattle.member_module.specs.Held.{latest_of}
-use Rattle.consensus_agent.proofs.Orders.{took_client}
+use Rattle.consensus_agent.proofs.Orders.{nothing_since, took_client}
 use Rattle.consensus_agent.proofs.Refusals.{client_leaves}
 use Rattle.consensus_agent.proofs.Running.{values_in, kept_in}
 use Rattle.consensus_agent.proofs.agent.Agent.client.Goals as goal
@@ -25,3 +25,9 @@ returns-clause-leaves g c =
     c.in_ok-look.ensures.up
     c.in_ok-decided.ensures
     c.in_ok-outcome.ensures.done)
+
+pub returns-clause-untouched : goal.returns-clause-untouched
+returns-clause-untouched g c = nothing_since c.in_ok-outcome.outcome c.args.self.now.disk c.look.new.self.disk c.carry_out.new.self.disk c.look.ensures.disk c.in_ok-outcome.ensures.untouched
+
+pub returns-clause-core : goal.returns-clause-core
+returns-clause-core g c = nothing_since c.in_ok-outcome.outcome c.args.self.now.core c.look.new.self.core c.carry_out.new.self.core c.look.ensures.core c.in_ok-outcome.ensures.core

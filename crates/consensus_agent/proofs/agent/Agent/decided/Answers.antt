@@ -1,4 +1,3 @@
-use Rattle.std.proofs.Common.{◌≡◌}
 use Rattle.member_module.specs.Held.{latest_of}
 use Rattle.consensus_agent.proofs.Orders.{decision_has_room}
 use Rattle.consensus_agent.proofs.agent.Agent.decided.Goals as goal

@@ -1,4 +1,4 @@
-use Rattle.std.proofs.Common.{◌≡◌, ◌<◌, length, subst, sym, rules}
+use Rattle.std.proofs.Common.{subst, sym, rules}
 use Rattle.std.specs.Prelude.{IsTrue, IfErr}
 use Rattle.std.proofs.lemmas.Result.{err_from_is_err_and}
 use Rattle.consensus_agent.specs.Faults.{IsNoDamage}

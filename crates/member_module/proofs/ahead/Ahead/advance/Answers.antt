@@ -1,4 +1,3 @@
-use Rattle.std.proofs.Common.{rules}
 use Rattle.member_module.proofs.Events.{drop_events}
 use Rattle.member_module.proofs.ahead.Ahead.advance.Goals as goal
 

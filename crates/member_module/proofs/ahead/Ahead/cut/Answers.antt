@@ -1,4 +1,3 @@
-use Rattle.std.proofs.Common.{rules}
 use Rattle.member_module.proofs.Events.{take_events}
 use Rattle.member_module.proofs.ahead.Ahead.cut.Goals as goal
 
