@@ -10,4 +10,4 @@ pub mod Noting
 pub mod First
 pub mod Events
 pub mod Made
-pub mod Clients
+pub mod Rows

@@ -1,31 +1,33 @@
 -- A row that the code ran at a member is the protocol's step, and what it says can be spelled.
-use Rattle.std.proofs.Common.{◌≡◌, ℕ, zero, suc, ◌<◌, get_or, arith, Bool, true, false, ◌&&◌, List, [], ◌∷◌, ◌++◌, length, Option, Some, None, refl, sym, ap, ◌∙◌, subst, ℤ, if◌then◌else◌}
-use Rattle.std.specs.Prelude.{nat_lt, slice_get, slice_index_or, unwrap_or}
-use Rattle.std.proofs.lemmas.Option.{unwrap_or-slice_get}
+use Rattle.std.proofs.Common.{◌≡◌, ℕ, zero, suc, ◌<◌, ◌≤◌, get_or, set, length-set, pos, arith, Bool, true, false, ◌&&◌, List, [], ◌∷◌, ◌++◌, length, Option, Some, None, refl, sym, ap, ◌∙◌, subst, ℤ, if◌then◌else◌}
+use Rattle.std.specs.Prelude.{nat_lt, not, slice_get, slice_index_or}
+use Rattle.std.proofs.lemmas.Option.{slice_get-get_or, slice_get_past}
+use Rattle.std.proofs.lemmas.List.{get_or_read}
 use Rattle.std.proofs.lemmas.Bool.Decides.{nat_tests}
-use Rattle.entry_log.specs.Durable.{fresh}
+use Rattle.entry_log.specs.Durable.{Durable, fresh}
 use Rattle.entry_log.specs.Shape.{Shape, shape_of}
 use Rattle.election.specs.declared.member.State.{State}
 use Rattle.election.specs.declared.member.State.TheVariants.{Init, Canvass, Nominate, CandidateBallot, FollowerBallot, LeaderInit, LeaderReady, FollowerLogReplication, FollowerReady, Closed}
 use Rattle.sbe_events.specs.declared.event.Event.{Event}
 use Rattle.sbe_consensus.specs.Spelling.{HasSpelling as IsPacket}
+use Rattle.sbe_consensus.specs.declared.packet.Packet.TheVariants as packets
 use Rattle.service_api.specs.declared.shipped.Kind.{Kind}
 use Rattle.module_state.specs.Entries.{IsSpellable}
-use Rattle.consensus_core.specs.Member.{Member, Sent, Cut, stopped, after, sent_by, changed_log, is_ready, row_of_packet, row_of_duty, row_of_client}
+use Rattle.consensus_core.specs.Member.{Member, Sent, Cut, stopped, after, sent_by, is_ready, row_of_packet, row_of_duty, row_of_client, starts, stops}
 use Rattle.consensus_core.specs.Reign.{duty_at}
 use Rattle.consensus_core.specs.declared.row.Row.{Row}
 use Rattle.consensus_core.specs.declared.values.Values.{Values}
-use Rattle.world.specs.World.{World, Raise, Reign, Step, Client, member, acts, step, comes, is_running, are_of, raises_by}
+use Rattle.world.specs.World.{World, Raise, Reign, Step, Starts, Stops, Client, member, acts, becomes, step, comes, is_running, is_stopped, are_of, raises_by}
 use Rattle.one_log.specs.Led.{Led}
 use Rattle.one_log.proofs.Turns.{due-passes, asked-passes}
 use Rattle.world.proofs.Runs.{runs}
-use Rattle.world_steps.specs.Fit.{Runs, Speaks}
+use Rattle.world_steps.specs.Fit.{Runs, SpeaksBy}
 use Rattle.world_steps.specs.Members.{cut_of, reign_term, reigns_from}
-use Rattle.world_steps.specs.Steps.{Seen, IsReached, still, due_at as due_here, due_if_ready, is_asked, noting, step_of}
+use Rattle.world_steps.specs.Steps.{Seen, IsReached, still, due_at as due_here, due_if_ready, is_asked, noting, sent_at, step_of}
 use Rattle.world_steps.specs.declared.cut.Cut.{Cut as CodeCut}
 use Rattle.world_steps.specs.declared.cut.Cut.TheVariants as cuts
 use Rattle.world_steps.specs.declared.step.Step.TheVariants as steps
-use Rattle.world_steps.proofs.Noting.{with_member, noting-acts}
+use Rattle.world_steps.proofs.Noting.{with_member, noting-put, noting-acts}
 use Rattle.world_steps.proofs.Reached.{Known, led_of, known-of, same-seen, row-speaks, duty-row, packet-row, client-row, duty-is, delivery-is, client-is, sent-there, runs_now}
 use Rattle.world_steps.proofs.Turned.{seen_of, due-same, asked-same}
 
@@ -80,7 +82,7 @@ duty-guard n kinds l m alive since k on =
 -- the row of a duty of a running member is its step, and what it says can be spelled
 pub record IsDuty (s : Seen) (m : ℕ) (alive : List (ℤ × ℕ)) (since : ℕ) (cut : CodeCut) (es : List Event) : Type 0 where
   pub step_is : acts s.world m (row_of_duty (member s.world m) es s.world.now) (cut_of cut) ≡ step s.world (step_of s (steps.Duty m alive since cut))
-  pub speaks : Speaks (row_of_duty (member s.world m) es s.world.now).values (row_of_duty (member s.world m) es s.world.now).plan (changed_log (row_of_duty (member s.world m) es s.world.now).change (member s.world m).durable.log)
+  pub speaks : SpeaksBy (member s.world m) (row_of_duty (member s.world m) es s.world.now)
 
 duty-there : (n : ℕ) (kinds : List Kind) (l : Led) (m : ℕ) (alive : List (ℤ × ℕ)) (since : ℕ) (cut : CodeCut) (es : List Event) → Known n kinds l
     → is_running l.hosted.world m ≡ true → es ≡ due_if_ready (seen_of kinds l) m alive since → IsDuty (seen_of kinds l) m alive since cut es
@@ -93,7 +95,7 @@ duty-there n kinds l m alive since cut es k on e =
     let same = duty-same s m alive since es e in
     record {
       step_is = ap (λ (row : Row). acts w m row (cut_of cut)) same ∙ sym (duty-is kinds l m alive since cut guard);
-      speaks = subst (λ (row : Row). Speaks row.values row.plan (changed_log row.change x.durable.log)) (sym same)
+      speaks = subst (SpeaksBy x) (sym same)
           (row-speaks n kinds l (steps.Duty m alive since cuts.Whole) m (row_of_duty x due w.now) tt k (duty-is kinds l m alive since cuts.Whole guard) (duty-row n kinds l m due k on));
     }
 
@@ -104,9 +106,10 @@ duty-made s m alive since cut es q on e =
 
 -- ---- deliveries
 
+-- the row of a packet that was sent to a running member is its step, and what it says can be spelled
 pub record IsDelivery (s : Seen) (which : ℕ) (o : Sent) (cut : CodeCut) : Type 0 where
   pub step_is : acts s.world o.to (row_of_packet (member s.world o.to) o.packet s.world.now) (cut_of cut) ≡ step s.world (step_of s (steps.Delivers which cut))
-  pub speaks : Speaks (row_of_packet (member s.world o.to) o.packet s.world.now).values (row_of_packet (member s.world o.to) o.packet s.world.now).plan (changed_log (row_of_packet (member s.world o.to) o.packet s.world.now).change (member s.world o.to).durable.log)
+  pub speaks : SpeaksBy (member s.world o.to) (row_of_packet (member s.world o.to) o.packet s.world.now)
   pub spelled : IsPacket o.packet
 
 delivery-there : (n : ℕ) (kinds : List Kind) (l : Led) (which : ℕ) (o : Sent) (cut : CodeCut) → Known n kinds l → slice_get l.hosted.world.sent which ≡ Some o → is_running l.hosted.world o.to ≡ true → IsDelivery (seen_of kinds l) which o cut
@@ -120,19 +123,36 @@ delivery-there n kinds l which o cut k e on =
       spelled = k.spelled.sent o has;
     }
 
--- the packet of this number, as it is found in the list
-pub same-sent : (xs : List Sent) (k : ℕ) (r o : Sent) → r ≡ get_or xs k r → slice_get xs k ≡ Some o → r ≡ o
-same-sent xs k r o at e = at ∙ sym (unwrap_or-slice_get xs k r) ∙ ap (λ (z : Option Sent). unwrap_or z r) e
-
-pub delivery-made : (s : Seen) (which : ℕ) (o : Sent) (cut : CodeCut) → IsReached s → slice_get s.world.sent which ≡ Some o → is_running s.world o.to ≡ true → IsDelivery s which o cut
+delivery-made : (s : Seen) (which : ℕ) (o : Sent) (cut : CodeCut) → IsReached s → slice_get s.world.sent which ≡ Some o → is_running s.world o.to ≡ true → IsDelivery s which o cut
 delivery-made s which o cut q e on =
     subst (λ (z : Seen). slice_get z.world.sent which ≡ Some o → is_running z.world o.to ≡ true → IsDelivery z which o cut) (same-seen s q) (delivery-there q.members s.kinds (led_of s q) which o cut (known-of s q)) e on
+
+-- the same of the packet of this number, to this member
+pub record IsTaking (s : Seen) (which m : ℕ) (cut : CodeCut) : Type 0 where
+  pub step_is : acts s.world m (row_of_packet (member s.world m) (sent_at s.world which).packet s.world.now) (cut_of cut) ≡ step s.world (step_of s (steps.Delivers which cut))
+  pub speaks : SpeaksBy (member s.world m) (row_of_packet (member s.world m) (sent_at s.world which).packet s.world.now)
+  pub spelled : IsPacket (sent_at s.world which).packet
+
+abbrev no_packet : Sent
+no_packet = record { to = 0; packet = packets.Append (pos 0) (pos 0) (pos 0) }
+
+pub taking-made : (s : Seen) (which m : ℕ) (cut : CodeCut) → IsReached s → which < length s.world.sent → m ≡ (sent_at s.world which).to → is_running s.world m ≡ true → IsTaking s which m cut
+taking-made s which m cut q inside to on =
+    subst (λ (k : ℕ). is_running s.world k ≡ true → IsTaking s which k cut) (sym to)
+    (λ (here : is_running s.world (sent_at s.world which).to ≡ true).
+    let made = delivery-made s which (sent_at s.world which) cut q (slice_get-get_or s.world.sent which no_packet inside) here in
+    record { step_is = made.step_is; speaks = made.speaks; spelled = made.spelled }) on
+
+-- the packet of this number, as it is found in the list
+pub packet-found : (s t : Seen) (which : ℕ) (o : Sent) → s ≡ t → which < length t.world.sent → o ≡ get_or s.world.sent which o → o ≡ sent_at t.world which
+packet-found s t which o view inside at =
+    get_or_read s.world.sent which o (subst (λ (z : Seen). which < length z.world.sent) (sym view) inside) at no_packet ∙ ap (λ (z : Seen). sent_at z.world which) view
 
 -- ---- clients
 
 pub record IsAsking (s : Seen) (m : ℕ) (e : Event) (cut : CodeCut) : Type 0 where
   pub step_is : acts s.world m (row_of_client (member s.world m) e) (cut_of cut) ≡ step s.world (step_of s (steps.Client m e cut))
-  pub speaks : Speaks (row_of_client (member s.world m) e).values (row_of_client (member s.world m) e).plan (changed_log (row_of_client (member s.world m) e).change (member s.world m).durable.log)
+  pub speaks : SpeaksBy (member s.world m) (row_of_client (member s.world m) e)
 
 client-there : (n : ℕ) (kinds : List Kind) (l : Led) (m : ℕ) (e : Event) (cut : CodeCut) → IsSpellable e → Known n kinds l → is_running l.hosted.world m ≡ true → is_asked (seen_of kinds l) m e ≡ true → IsAsking (seen_of kinds l) m e cut
 client-there n kinds l m e cut g k on asked =
@@ -154,12 +174,18 @@ no-less n = grind (arith, nat_tests)
 still-same : (w : World) → step w still ≡ w
 still-same w = ap (λ (b : Bool). record w { now = (if b then 0 else w.now) }) (no-less w.now)
 
--- an event that isn't asked, and one at a member that doesn't run, change nothing
-pub client-still : (s : Seen) (m : ℕ) (e : Event) (cut : CodeCut) → is_asked s m e ≡ false → step s.world (step_of s (steps.Client m e cut)) ≡ s.world
-client-still s m e cut no = ap (λ (b : Bool). step s.world (if b then Client m e (cut_of cut) else still)) no ∙ still-same s.world
+-- ---- a guard that fails changes nothing
 
-pub client-down : (s : Seen) (m : ℕ) (e : Event) (cut : CodeCut) → is_running s.world m ≡ false → step s.world (step_of s (steps.Client m e cut)) ≡ s.world
-client-down s m e cut off = at (is_asked s m e)
+-- what code sees, where its world is this one
+abbrev pub with_world : Seen → World → Seen
+with_world s w = record { kinds = s.kinds; world = w; printed = s.printed }
+
+-- an event that isn't asked, and one at a member that doesn't run
+pub client-still : (s : Seen) (m : ℕ) (e : Event) (cut : CodeCut) → is_asked s m e ≡ false → s ≡ with_world s (step s.world (step_of s (steps.Client m e cut)))
+client-still s m e cut no = sym (ap (with_world s) (ap (λ (b : Bool). step s.world (if b then Client m e (cut_of cut) else still)) no ∙ still-same s.world))
+
+pub client-down : (s : Seen) (m : ℕ) (e : Event) (cut : CodeCut) → is_running s.world m ≡ false → s ≡ with_world s (step s.world (step_of s (steps.Client m e cut)))
+client-down s m e cut off = sym (ap (with_world s) (at (is_asked s m e)))
   where
     row : World
     row = acts s.world m (row_of_client (member s.world m) e) (cut_of cut)
@@ -168,9 +194,30 @@ client-down s m e cut off = at (is_asked s m e)
     at true = ap (λ (r : Bool). if r && are_of (member s.world m).values.election.term (e ∷ []) then row else s.world) off
     at false = still-same s.world
 
+pub duty-down : (s : Seen) (m : ℕ) (alive : List (ℤ × ℕ)) (since : ℕ) (cut : CodeCut) → is_running s.world m ≡ false → s ≡ with_world s (step s.world (step_of s (steps.Duty m alive since cut)))
+duty-down s m alive since cut off =
+    sym (ap (λ (r : Bool). with_world s (if r && are_of (member s.world m).values.election.term (due_here s m alive since) then acts s.world m (row_of_duty (member s.world m) (due_here s m alive since) s.world.now) (cut_of cut) else s.world)) off)
+
+-- a packet that wasn't sent, and one to a member that doesn't run
+pub delivery-past : (s : Seen) (which : ℕ) (cut : CodeCut) → length s.world.sent ≤ which → s ≡ with_world s (step s.world (step_of s (steps.Delivers which cut)))
+delivery-past s which cut past = sym (ap (λ (o : Option Sent). with_world s (comes s.world o (cut_of cut))) (slice_get_past s.world.sent which past))
+
+pub delivery-down : (s : Seen) (which m : ℕ) (cut : CodeCut) → which < length s.world.sent → m ≡ (sent_at s.world which).to → is_running s.world m ≡ false → s ≡ with_world s (step s.world (step_of s (steps.Delivers which cut)))
+delivery-down s which m cut inside to off =
+    let o = sent_at s.world which in
+    let row = acts s.world o.to (row_of_packet (member s.world o.to) o.packet s.world.now) (cut_of cut) in
+    sym (ap (λ (z : Option Sent). with_world s (comes s.world z (cut_of cut))) (slice_get-get_or s.world.sent which no_packet inside)
+    ∙ ap (λ (r : Bool). with_world s (if r then row else s.world)) (ap (is_running s.world) (sym to) ∙ off))
+
 -- ---- a running member, as it is found in the list
 
-found-in : (l : List Member) (m : ℕ) (x : Member) → m < length l → x ≡ get_or l m x → x ≡ slice_index_or l m (stopped fresh)
+below : (m n : ℕ) → m < n → nat_lt m n ≡ true
+below m n h = grind (arith, nat_tests)
+
+beyond : (m n : ℕ) → n ≤ m → nat_lt m n ≡ false
+beyond m n h = grind (arith, nat_tests)
+
+pub found-in : (l : List Member) (m : ℕ) (x : Member) → m < length l → x ≡ get_or l m x → x ≡ slice_index_or l m (stopped fresh)
 found-in [] m x h e = absurd (omega arith)
 found-in (a ∷ l) zero x h e = e
 found-in (a ∷ l) (suc m) x h e = found-in l m x (omega arith) e
@@ -194,22 +241,30 @@ pub runs-at : (s : Seen) (m : ℕ) (x : Member) → Found s m x → Runs x.value
 runs-at s m x f = subst (λ (y : Member). Runs y.values y.durable.log) (sym f.there) (runs_now s m f.reached)
 
 -- what its row says can be spelled
-abbrev pub SpeaksAt : Member → Row → Type 0
-SpeaksAt x row = Speaks row.values row.plan (changed_log row.change x.durable.log)
+pub speaks-at : (s t : Seen) (m : ℕ) (x : Member) (row : Member → ℕ → Row) → Found s m x → s ≡ t → SpeaksBy (member t.world m) (row (member t.world m) t.world.now) → SpeaksBy x (row x s.world.now)
+speaks-at s t m x row f view h =
+    subst (λ (y : Member). SpeaksBy y (row y s.world.now)) (sym f.there)
+    (subst (λ (z : Seen). SpeaksBy (member z.world m) (row (member z.world m) z.world.now)) (sym view) h)
 
-pub duty-speaks : (s t : Seen) (m : ℕ) (alive : List (ℤ × ℕ)) (since : ℕ) (es : List Event) (x : Member) → Found s m x → s ≡ t → es ≡ due_if_ready t m alive since → SpeaksAt x (row_of_duty x es s.world.now)
-duty-speaks s t m alive since es x f view e =
-    subst (λ (y : Member). SpeaksAt y (row_of_duty y es s.world.now)) (sym f.there)
-    (duty-made s m alive since cuts.Whole es f.reached f.on (subst (λ (z : Seen). es ≡ due_if_ready z m alive since) (sym view) e)).speaks
+-- the list with another member there is as long
+pub still-within : (s : Seen) (m : ℕ) (x y : Member) → Found s m x → m < length (set s.world.members m y)
+still-within s m x y f = let l = f.within in let n = length-set s.world.members m y in omega (arith, l, n)
 
-pub client-speaks : (s t : Seen) (m : ℕ) (e : Event) (x : Member) → Found s m x → s ≡ t → IsSpellable e → is_asked t m e ≡ true → SpeaksAt x (row_of_client x e)
-client-speaks s t m e x f view g asked =
-    subst (λ (y : Member). SpeaksAt y (row_of_client y e)) (sym f.there)
-    (client-made s m e cuts.Whole g f.reached f.on (subst (λ (z : Seen). is_asked z m e ≡ true) (sym view) asked)).speaks
+-- ---- whether a member runs, as it is found in the list
 
-pub packet-speaks : (s : Seen) (which : ℕ) (o : Sent) (x : Member) → Found s o.to x → slice_get s.world.sent which ≡ Some o → SpeaksAt x (row_of_packet x o.packet s.world.now)
-packet-speaks s which o x f e =
-    subst (λ (y : Member). SpeaksAt y (row_of_packet y o.packet s.world.now)) (sym f.there) (delivery-made s which o cuts.Whole f.reached e f.on).speaks
+pub running-is : (s t : Seen) (m : ℕ) (x : Member) (b : Bool) → s ≡ t → m < length s.world.members → x ≡ get_or s.world.members m x → b ≡ x.up → b ≡ is_running t.world m
+running-is s t m x b view inside at up =
+    up ∙ ap (λ (y : Member). y.up) (found-in s.world.members m x inside at) ∙ sym (ap (λ (z : Bool). z && (member s.world m).up) (below m (length s.world.members) inside)) ∙ ap (λ (z : Seen). is_running z.world m) view
+
+pub stopped-is : (s t : Seen) (m : ℕ) (x : Member) (b : Bool) → s ≡ t → m < length s.world.members → x ≡ get_or s.world.members m x → b ≡ x.up → not b ≡ is_stopped t.world m
+stopped-is s t m x b view inside at up =
+    ap not (up ∙ ap (λ (y : Member). y.up) (found-in s.world.members m x inside at)) ∙ sym (ap (λ (z : Bool). z && not (member s.world m).up) (below m (length s.world.members) inside)) ∙ ap (λ (z : Seen). is_stopped z.world m) view
+
+pub running-past : (s t : Seen) (m : ℕ) → s ≡ t → length s.world.members ≤ m → false ≡ is_running t.world m
+running-past s t m view past = sym (ap (λ (z : Bool). z && (member s.world m).up) (beyond m (length s.world.members) past)) ∙ ap (λ (z : Seen). is_running z.world m) view
+
+pub stopped-past : (s t : Seen) (m : ℕ) → s ≡ t → length s.world.members ≤ m → false ≡ is_stopped t.world m
+stopped-past s t m view past = sym (ap (λ (z : Bool). z && not (member s.world m).up) (beyond m (length s.world.members) past)) ∙ ap (λ (z : Seen). is_stopped z.world m) view
 
 -- ---- what a call leaves
 
@@ -235,36 +290,41 @@ ran-acts s m row cut x y reigned raises sent reigns r =
       reigns_are = r.reigns_are ∙ ap (λ (a : Member). reigns_from m a.values.election.state (row a) a.durable.log cut) f.there;
     })
 
--- what code sees, where its world is this one
-abbrev pub with_world : Seen → World → Seen
-with_world s w = record { kinds = s.kinds; world = w; printed = s.printed }
-
-pub duty-returns : (s t : Seen) (m : ℕ) (alive : List (ℤ × ℕ)) (since : ℕ) (cut : CodeCut) (es : List Event) (x y : Member) (reigned : Option ℤ) (raises : List Raise) (sent : List Sent) (reigns : List Reign) (new : Seen)
-    → s ≡ t → es ≡ due_if_ready t m alive since → Ran s m (λ (a : Member). row_of_duty a es s.world.now) (cut_of cut) x y reigned raises sent reigns
-    → new ≡ with_world s (noting (with_member s.world m y) m reigned raises sent reigns) → new ≡ with_world t (step t.world (step_of t (steps.Duty m alive since cut)))
-duty-returns s t m alive since cut es x y reigned raises sent reigns new view e r is =
-    let f = r.found_is in
-    let made = duty-made s m alive since cut es f.reached f.on (subst (λ (z : Seen). es ≡ due_if_ready z m alive since) (sym view) e) in
+-- what code sees after it
+pub acts-returns : (s t : Seen) (m : ℕ) (row : Member → ℕ → Row) (cut : Cut) (x y : Member) (reigned : Option ℤ) (raises : List Raise) (sent : List Sent) (reigns : List Reign) (new : Seen)
+    → s ≡ t → Ran s m (λ (a : Member). row a s.world.now) cut x y reigned raises sent reigns
+    → new ≡ with_world s (noting (with_member s.world m y) m reigned raises sent reigns) → new ≡ with_world t (acts t.world m (row (member t.world m) t.world.now) cut)
+acts-returns s t m row cut x y reigned raises sent reigns new view r is =
     is
-    ∙ ap (with_world s) (ran-acts s m (λ (a : Member). row_of_duty a es s.world.now) (cut_of cut) x y reigned raises sent reigns r ∙ made.step_is)
-    ∙ ap (λ (z : Seen). with_world z (step z.world (step_of z (steps.Duty m alive since cut)))) view
+    ∙ ap (with_world s) (ran-acts s m (λ (a : Member). row a s.world.now) cut x y reigned raises sent reigns r)
+    ∙ ap (λ (z : Seen). with_world z (acts z.world m (row (member z.world m) z.world.now) cut)) view
 
-pub packet-returns : (s t : Seen) (which : ℕ) (cut : CodeCut) (o : Sent) (x y : Member) (reigned : Option ℤ) (raises : List Raise) (sent : List Sent) (reigns : List Reign) (new : Seen)
-    → s ≡ t → slice_get s.world.sent which ≡ Some o → Ran s o.to (λ (a : Member). row_of_packet a o.packet s.world.now) (cut_of cut) x y reigned raises sent reigns
-    → new ≡ with_world s (noting (with_member s.world o.to y) o.to reigned raises sent reigns) → new ≡ with_world t (step t.world (step_of t (steps.Delivers which cut)))
-packet-returns s t which cut o x y reigned raises sent reigns new view e r is =
-    let f = r.found_is in
-    let made = delivery-made s which o cut f.reached e f.on in
+-- what code sees after a change without a row
+pub becomes-returns : (s t : Seen) (m : ℕ) (x y : Member) (reigned : Option ℤ) (new : Seen) → s ≡ t → m < length s.world.members → x ≡ get_or s.world.members m x → reigned ≡ reign_term x
+    → new ≡ with_world s (noting (with_member s.world m y) m reigned [] [] []) → new ≡ with_world t (becomes t.world m y)
+becomes-returns s t m x y reigned new view inside at was is =
     is
-    ∙ ap (with_world s) (ran-acts s o.to (λ (a : Member). row_of_packet a o.packet s.world.now) (cut_of cut) x y reigned raises sent reigns r ∙ made.step_is)
-    ∙ ap (λ (z : Seen). with_world z (step z.world (step_of z (steps.Delivers which cut)))) view
+    ∙ ap (λ (r : Option ℤ). with_world s (noting (with_member s.world m y) m r [] [] [])) (was ∙ ap reign_term (found-in s.world.members m x inside at))
+    ∙ ap (with_world s) (noting-put s.world m y [] [] [] inside)
+    ∙ ap (λ (z : Seen). with_world z (becomes z.world m y)) view
 
-pub client-returns : (s t : Seen) (m : ℕ) (event : Event) (cut : CodeCut) (x y : Member) (reigned : Option ℤ) (raises : List Raise) (sent : List Sent) (reigns : List Reign) (new : Seen)
-    → s ≡ t → IsSpellable event → is_asked t m event ≡ true → Ran s m (λ (a : Member). row_of_client a event) (cut_of cut) x y reigned raises sent reigns
-    → new ≡ with_world s (noting (with_member s.world m y) m reigned raises sent reigns) → new ≡ with_world t (step t.world (step_of t (steps.Client m event cut)))
-client-returns s t m event cut x y reigned raises sent reigns new view g asked r is =
-    let f = r.found_is in
-    let made = client-made s m event cut g f.reached f.on (subst (λ (z : Seen). is_asked z m event ≡ true) (sym view) asked) in
-    is
-    ∙ ap (with_world s) (ran-acts s m (λ (a : Member). row_of_client a event) (cut_of cut) x y reigned raises sent reigns r ∙ made.step_is)
-    ∙ ap (λ (z : Seen). with_world z (step z.world (step_of z (steps.Client m event cut)))) view
+pub start-is : (t : Seen) (m : ℕ) (d : Durable) → is_stopped t.world m ≡ true → d ≡ (member t.world m).durable
+    → with_world t (becomes t.world m (starts m (length t.world.members) (length t.kinds) d)) ≡ with_world t (step t.world (Starts m (length t.kinds)))
+start-is t m d off is =
+    ap (λ (e : Durable). with_world t (becomes t.world m (starts m (length t.world.members) (length t.kinds) e))) is
+    ∙ sym (ap (λ (b : Bool). with_world t (if b then becomes t.world m (starts m (length t.world.members) (length t.kinds) (member t.world m).durable) else t.world)) off)
+
+pub start-up : (t : Seen) (m : ℕ) → is_stopped t.world m ≡ false → t ≡ with_world t (step t.world (Starts m (length t.kinds)))
+start-up t m on = sym (ap (λ (b : Bool). with_world t (if b then becomes t.world m (starts m (length t.world.members) (length t.kinds) (member t.world m).durable) else t.world)) on)
+
+pub stop-is : (t : Seen) (m : ℕ) (d : Durable) → is_running t.world m ≡ true → d ≡ (member t.world m).durable → with_world t (becomes t.world m (stopped d)) ≡ with_world t (step t.world (Stops m))
+stop-is t m d on is =
+    ap (λ (e : Durable). with_world t (becomes t.world m (stopped e))) is
+    ∙ sym (ap (λ (b : Bool). with_world t (if b then becomes t.world m (stops (member t.world m)) else t.world)) on)
+
+pub stop-down : (t : Seen) (m : ℕ) → is_running t.world m ≡ false → t ≡ with_world t (step t.world (Stops m))
+stop-down t m off = sym (ap (λ (b : Bool). with_world t (if b then becomes t.world m (stops (member t.world m)) else t.world)) off)
+
+-- where it is found, its disk is that of the world's member
+pub disk-found : (s t : Seen) (m : ℕ) (x : Member) → s ≡ t → m < length s.world.members → x ≡ get_or s.world.members m x → x.durable ≡ (member t.world m).durable
+disk-found s t m x view inside at = ap (λ (y : Member). y.durable) (found-in s.world.members m x inside at) ∙ ap (λ (z : Seen). (member z.world m).durable) view

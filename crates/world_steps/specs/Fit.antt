@@ -6,7 +6,9 @@ use Rattle.sbe_consensus.specs.Spelling.{AreEntries, HasSpelling, spelling_of}
 use Rattle.sbe_consensus.specs.declared.packet.Packet.{Packet}
 use Rattle.sbe_consensus.specs.declared.packet.Outgoing.{Outgoing}
 use Rattle.consensus_core.specs.Fit.{IsSound}
+use Rattle.consensus_core.specs.Member.{Member, changed_log}
 use Rattle.consensus_core.specs.declared.plan.Plan.{Plan}
+use Rattle.consensus_core.specs.declared.row.Row.{Row}
 use Rattle.consensus_core.specs.declared.values.Values.{Values}
 
 -- a log within its limit, of events whose terms don't fall
@@ -31,6 +33,10 @@ pub record Runs (v : Values) (log : Log) : Type 0 where
 pub record Speaks (v : Values) (p : Plan) (log : Log) : Type 0 where
   pub runs : Runs v log
   pub sound : IsSound v p
+
+-- what a row of a member says of its log can be spelled
+abbrev pub SpeaksBy : Member → Row → Type 0
+SpeaksBy x row = Speaks row.values row.plan (changed_log row.change x.durable.log)
 
 -- each of these is the spelling of a packet
 abbrev pub AreSpelled : List Outgoing → Type 0

@@ -13,6 +13,7 @@ use Rattle.module_state.specs.Module.{tentative}
 use Rattle.module_state.specs.Places.{entry_of, stamp_of}
 use Rattle.module_state.specs.Services.{module_of}
 use Rattle.consensus_core.specs.Member.{Member, Sent, is_ready, stopped}
+use Rattle.sbe_consensus.specs.declared.packet.Packet.TheVariants as packets
 use Rattle.world.specs.World.{World, Raise, Reign, Written, Holding, Step, Passes, Starts, Stops, Duty, Delivers, Client, member, first_logs, formatted}
 use Rattle.service_runs.specs.Hosts.{Rows, Mounts, Idle, longer}
 use Rattle.one_log.specs.Led.{Led, Turn, Acts, Leads, Asks, admits, has_room, turns, led}
@@ -64,6 +65,10 @@ print_first zero ms printed = printed
 print_first (suc n) ms printed = longer (print_first n ms printed) (take (slice_index_or ms n (stopped fresh)).values.rest.commit (slice_index_or ms n (stopped fresh)).durable.log)
 
 -- ---- which step it is
+
+-- the packet of this number
+abbrev pub sent_at : World → ℕ → Sent
+sent_at w k = slice_index_or w.sent k (record { to = 0; packet = packets.Append (pos 0) (pos 0) (pos 0) })
 
 -- what is due at a member whose module applied nothing
 abbrev pub due_at : Seen → ℕ → List (ℤ × ℕ) → ℕ → List Event

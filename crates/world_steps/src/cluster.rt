@@ -2,12 +2,15 @@
 ghost use Rattle.std.specs.Prelude.{◌≡◌, ◌≤◌, ◌<◌, ◌++◌, true, All, length, replicate, take, IfOk, OnOk};
 ghost use Rattle.sbe_events.specs.Spelling.{HasSpelling as IsEvent};
 ghost use Rattle.entry_log.specs.Durable.{fresh};
-ghost use Rattle.consensus_core.specs.Member.{stopped};
+ghost use Rattle.sbe_consensus.specs.Spelling.{HasSpelling as IsPacket};
+ghost use Rattle.consensus_core.specs.Member.{row_of_client, row_of_duty, row_of_packet, stopped};
 ghost use Rattle.module_state.specs.Entries.{IsSpellable};
 ghost use Rattle.service_runs.specs.Hosts.{longer, printed_by};
-ghost use Rattle.world.specs.World.{first_logs, is_running, is_stopped, step};
+ghost use Rattle.world.specs.World.{acts, first_logs, is_running, is_stopped, member, step};
 ghost use Rattle.world_steps.specs.declared.step.Step.TheVariants as steps;
-ghost use Rattle.world_steps.specs.Steps.{IsReached, due_if_ready, first_seen, held_in, is_asked, listed, noting, print_first, step_of, written_in};
+ghost use Rattle.world_steps.specs.Fit.{SpeaksBy};
+ghost use Rattle.world_steps.specs.Members.{cut_of};
+ghost use Rattle.world_steps.specs.Steps.{IsReached, due_if_ready, first_seen, held_in, is_asked, listed, noting, print_first, sent_at, step_of, written_in};
 
 use crate::cut::Cut;
 use crate::due::{due_in, may_append, stamp_of, term_of};
@@ -122,20 +125,22 @@ impl World {
     fn is_running(&self, number: u8) -> bool
         ensures { result ≡ is_running self.now.world number }
     {
-        match self.members.get(number as usize) {
-            Some(found) => found.is_up(),
-            None => false,
+        let number = number as usize;
+        if number >= self.members.len() {
+            return false;
         }
+        self.members[number].is_up()
     }
 
     /// Whether there is this member and it doesn't run.
     fn is_stopped(&self, number: u8) -> bool
         ensures { result ≡ is_stopped self.now.world number }
     {
-        match self.members.get(number as usize) {
-            Some(found) => !found.is_up(),
-            None => false,
+        let number = number as usize;
+        if number >= self.members.len() {
+            return false;
         }
+        !self.members[number].is_up()
     }
 
     /// Time rises.
@@ -193,16 +198,33 @@ impl World {
         if !self.is_running(number) {
             return Ok(());
         }
-        let due = self.due_at(number, alive.as_slice(), since)?;
+        let events = self.due_at(number, alive, since)?;
+        self.does(number, events.as_slice(), cut)?;
+        Ok(())
+    }
+
+    /// The row of a running member's duty, with these events being due.
+    fn does(&mut self, number: u8, due: &[Event], cut: Cut) -> Result<(), NoMemory>
+        requires reached { IsReached self.old }
+        requires runs { is_running self.old.world number ≡ true }
+        requires due { All IsEvent due.now }
+        requires speaks { SpeaksBy (member self.old.world number) (row_of_duty (member self.old.world number) due.now self.old.world.now) }
+        ensures { OnOk result (self.new ≡ record self.old { world = acts self.old.world number (row_of_duty (member self.old.world number) due.now self.old.world.now) (cut_of cut) }) }
+    {
         let reigned = self.members[number as usize].reign_term();
         let now = self.moment;
-        let done = self.members[number as usize].has_duty(number, due.as_slice(), now, cut)?;
+        let done = self.members[number as usize].has_duty(number, due, now, cut)?;
         self.notes(number, reigned, done)?;
         Ok(())
     }
 
     /// What is due at a running member, nothing unless it leads.
-    fn due_at(&self, number: u8, alive: &[(i64, u64)], since: u64) -> Result<List<Event>, NoMemory>
+    fn due_at(
+        &self,
+        number: u8,
+        alive: &List<(i64, u64)>,
+        since: u64,
+    ) -> Result<List<Event>, NoMemory>
         requires reached { IsReached self.now }
         requires runs { is_running self.now.world number ≡ true }
         ensures due { IfOk result (λ es. es ≡ due_if_ready self.now number alive.now since) }
@@ -218,7 +240,13 @@ impl World {
             since,
         };
         let services = self.kinds.len() as u8;
-        due_in(self.alloc, services, found.kept().entries(), alive, moment)
+        due_in(
+            self.alloc,
+            services,
+            found.kept().entries(),
+            alive.as_slice(),
+            moment,
+        )
     }
 
     /// A packet is delivered, where its receiver runs.
@@ -226,17 +254,32 @@ impl World {
         requires { IsReached self.old }
         ensures { OnOk result (self.new ≡ record self.old { world = step self.old.world (step_of self.old (steps.Delivers which cut)) }) }
     {
-        let number = match self.sent.get(which as usize) {
-            Some(sent) => sent.to,
-            None => return Ok(()),
-        };
+        let all = self.sent();
+        if all.len() as u64 <= which {
+            return Ok(());
+        }
+        let sent = &all[which as usize];
+        let number = sent.to;
         if !self.is_running(number) {
             return Ok(());
         }
+        self.takes(number, which, cut)?;
+        Ok(())
+    }
+
+    /// The row of a running member that takes a packet, which was sent to it.
+    fn takes(&mut self, number: u8, which: u64, cut: Cut) -> Result<(), NoMemory>
+        requires reached { IsReached self.old }
+        requires runs { is_running self.old.world number ≡ true }
+        requires sent { which < length self.old.world.sent }
+        requires spelled { IsPacket (sent_at self.old.world which).packet }
+        requires speaks { SpeaksBy (member self.old.world number) (row_of_packet (member self.old.world number) (sent_at self.old.world which).packet self.old.world.now) }
+        ensures { OnOk result (self.new ≡ record self.old { world = acts self.old.world number (row_of_packet (member self.old.world number) (sent_at self.old.world which).packet self.old.world.now) (cut_of cut) }) }
+    {
         let reigned = self.members[number as usize].reign_term();
         let now = self.moment;
-        let packet = &self.sent[which as usize].packet;
-        let done = self.members[number as usize].takes(number, packet, now, cut)?;
+        let sent = &self.sent[which as usize];
+        let done = self.members[number as usize].takes(number, &sent.packet, now, cut)?;
         self.notes(number, reigned, done)?;
         Ok(())
     }
@@ -250,9 +293,22 @@ impl World {
         if !self.is_running(number) {
             return Ok(());
         }
-        if !self.is_asked(number, event)? {
+        let asked = self.is_asked(number, event)?;
+        if !asked {
             return Ok(());
         }
+        self.appends(number, event, cut)?;
+        Ok(())
+    }
+
+    /// The row of a running member that a client's event comes to.
+    fn appends(&mut self, number: u8, event: &Event, cut: Cut) -> Result<(), NoMemory>
+        requires reached { IsReached self.old }
+        requires runs { is_running self.old.world number ≡ true }
+        requires event { IsEvent event.now }
+        requires speaks { SpeaksBy (member self.old.world number) (row_of_client (member self.old.world number) event.now) }
+        ensures { OnOk result (self.new ≡ record self.old { world = acts self.old.world number (row_of_client (member self.old.world number) event.now) (cut_of cut) }) }
+    {
         let reigned = self.members[number as usize].reign_term();
         let done = self.members[number as usize].appends(number, event, cut)?;
         self.notes(number, reigned, done)?;

@@ -1,12 +1,13 @@
 // One member.
 ghost use Rattle.std.specs.Prelude.{◌≡◌, ◌≤◌, ◌<◌, ◌^◌, true, All, length, IfOk, OnOk, Option, Some, None};
 ghost use Rattle.entry_log.specs.Durable.{fresh};
+ghost use Rattle.entry_log.specs.Shape.{shape_of};
 ghost use Rattle.sbe_consensus.specs.Spelling.{HasSpelling};
 ghost use Rattle.sbe_events.specs.Spelling.{HasSpelling as IsEvent};
 ghost use Rattle.consensus_core.specs.Fit.{IsTerm};
 ghost use Rattle.consensus_core.specs.Member.{after, changed_log, is_ready, row_of_client, row_of_duty, row_of_packet, sent_by, starts, stopped};
 ghost use Rattle.world.specs.World.{raises_by};
-ghost use Rattle.world_steps.specs.Fit.{Runs, Speaks};
+ghost use Rattle.world_steps.specs.Fit.{LogFits, Runs, Speaks};
 ghost use Rattle.world_steps.specs.Members.{change_of_client, cut_of, held_term, reign_term, reigns_from, row_run};
 ghost use Rattle.world_steps.specs.Steps.{listed};
 
@@ -17,6 +18,7 @@ use crate::ran::{Done, Ran};
 use crate::speech::finish;
 use cl_base::{List, NoMemory};
 use consensus_core::{Change, Core, State};
+use entry_log::LogIndex;
 use sbe_consensus::Packet;
 use sbe_events::Event;
 use std::alloc::Global;
@@ -86,6 +88,11 @@ impl Member {
         }
     }
 
+    /// Where its memory comes from.
+    fn alloc(&self) -> Global {
+        self.kept.alloc()
+    }
+
     /// What its disk keeps.
     pub fn kept(&self) -> &Kept
         ensures { result.now ≡ self.now.durable }
@@ -137,6 +144,26 @@ impl Member {
         self.core = None;
     }
 
+    /// The index of its log.
+    fn index(&self) -> Result<LogIndex, NoMemory>
+        requires { LogFits self.now.durable.log }
+        ensures { IfOk result (λ x. x ≡ shape_of self.now.durable.log) }
+    {
+        self.kept.index()
+    }
+
+    /// The part in the agreement of a running member, which is taken out of it.
+    fn taken(&mut self) -> Core
+        requires { self.old.up ≡ true }
+        ensures values { result.values ≡ self.old.values }
+        ensures member { self.new ≡ stopped self.old.durable }
+    {
+        match self.core.take() {
+            Some(core) => core,
+            None => unreachable!(),
+        }
+    }
+
     /// A row that its part in the agreement just ran goes on.
     fn settle(&mut self, number: u8, ran: Ran, cut: Cut) -> Result<Done, NoMemory>
         requires { cut ≡ Cut.Whole → Speaks ran.core.values ran.core.plan (changed_log ran.change self.old.durable.log) }
@@ -171,13 +198,12 @@ impl Member {
         ensures sent { IfOk result (λ d. d.sent ≡ sent_by (row_of_packet self.old packet.now now) (cut_of cut) (stopped self.old.durable)) }
         ensures reigns { IfOk result (λ d. listed d.reign ≡ reigns_from number self.old.values.election.state (row_of_packet self.old packet.now now) self.old.durable.log (cut_of cut)) }
     {
-        let Some(mut core) = self.core.take() else {
-            unreachable!()
-        };
+        let index = self.index()?;
+        let mut core = self.taken();
         let was = core.state();
-        let index = self.kept.index()?;
         let change = core.on_packet(&index, packet, now)?;
-        self.settle(number, Ran { was, core, change }, cut)
+        let done = self.settle(number, Ran { was, core, change }, cut)?;
+        Ok(done)
     }
 
     /// A running member has its duty at this moment (ms), with these events being due.
@@ -198,13 +224,12 @@ impl Member {
         ensures sent { IfOk result (λ d. d.sent ≡ sent_by (row_of_duty self.old due.now now) (cut_of cut) (stopped self.old.durable)) }
         ensures reigns { IfOk result (λ d. listed d.reign ≡ reigns_from number self.old.values.election.state (row_of_duty self.old due.now now) self.old.durable.log (cut_of cut)) }
     {
-        let Some(mut core) = self.core.take() else {
-            unreachable!()
-        };
+        let index = self.index()?;
+        let mut core = self.taken();
         let was = core.state();
-        let index = self.kept.index()?;
         let change = core.on_duty(&index, due, now)?;
-        self.settle(number, Ran { was, core, change }, cut)
+        let done = self.settle(number, Ran { was, core, change }, cut)?;
+        Ok(done)
     }
 
     /// A running member appends a client's event, or an operator's, where it leads.
@@ -218,14 +243,13 @@ impl Member {
         ensures sent { IfOk result (λ d. d.sent ≡ sent_by (row_of_client self.old event.now) (cut_of cut) (stopped self.old.durable)) }
         ensures reigns { IfOk result (λ d. listed d.reign ≡ reigns_from number self.old.values.election.state (row_of_client self.old event.now) self.old.durable.log (cut_of cut)) }
     {
-        let Some(mut core) = self.core.take() else {
-            unreachable!()
-        };
+        let index = self.index()?;
+        let mut core = self.taken();
         let was = core.state();
-        let index = self.kept.index()?;
-        let change = change_of_client(self.kept.alloc(), was, event)?;
+        let change = change_of_client(self.alloc(), was, event)?;
         core.on_append(&index);
-        self.settle(number, Ran { was, core, change }, cut)
+        let done = self.settle(number, Ran { was, core, change }, cut)?;
+        Ok(done)
     }
 }
 
