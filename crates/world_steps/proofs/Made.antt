@@ -182,7 +182,7 @@ with_world s w = record { kinds = s.kinds; world = w; printed = s.printed }
 
 -- an event that isn't asked, and one at a member that doesn't run
 pub client-still : (s : Seen) (m : ℕ) (e : Event) (cut : CodeCut) → is_asked s m e ≡ false → s ≡ with_world s (step s.world (step_of s (steps.Client m e cut)))
-client-still s m e cut no = sym (ap (with_world s) (ap (λ (b : Bool). step s.world (if b then Client m e (cut_of cut) else still)) no ∙ still-same s.world))
+client-still s m e cut unasked = sym (ap (with_world s) (ap (λ (b : Bool). step s.world (if b then Client m e (cut_of cut) else still)) unasked ∙ still-same s.world))
 
 pub client-down : (s : Seen) (m : ℕ) (e : Event) (cut : CodeCut) → is_running s.world m ≡ false → s ≡ with_world s (step s.world (step_of s (steps.Client m e cut)))
 client-down s m e cut off = sym (ap (with_world s) (at (is_asked s m e)))

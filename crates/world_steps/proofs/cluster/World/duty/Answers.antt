@@ -1,7 +1,14 @@
-use Rattle.std.proofs.Common.{◌≤◌, ◌^◌, sym, subst}
-use Rattle.world_steps.specs.Steps.{Seen}
-use Rattle.world_steps.proofs.Reached.{now_low}
+use Rattle.std.proofs.Common.{sym, ap, subst, ◌∙◌}
+use Rattle.std.specs.Prelude.{All}
+use Rattle.sbe_events.specs.Spelling.{HasSpelling}
+use Rattle.world_steps.proofs.Made.{duty-made, duty-down, with_world}
 use Rattle.world_steps.proofs.cluster.World.duty.Goals as goal
 
-pub has_duty-requires-clause-now : goal.has_duty-requires-clause-now
-has_duty-requires-clause-now c = subst (λ (s : Seen). s.world.now ≤ 2 ^ 60) (sym c.self.view_is) (now_low c.args.self.now c.requires)
+pub does-requires-clause-speaks : goal.does-requires-clause-speaks
+does-requires-clause-speaks c =
+    (duty-made c.args.self.now c.args.number c.args.alive.now c.args.since c.args.cut c.as_slice.result.now c.requires (sym c.is_running.ensures ∙ c.if-not-is_running.false) (c.as_slice.ensures ∙ c.in_ok-events.ensures.due)).speaks
+
+pub returns : goal.returns
+returns c =
+    c.in_ok-does.ensures
+    ∙ ap (with_world c.args.self.now) (duty-made c.args.self.now c.args.number c.args.alive.now c.args.since c.args.cut c.as_slice.result.now c.requires (sym c.is_running.ensures ∙ c.if-not-is_running.false) (c.as_slice.ensures ∙ c.in_ok-events.ensures.due)).step_is
