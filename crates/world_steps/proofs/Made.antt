@@ -34,7 +34,7 @@ use Rattle.world_steps.proofs.Turned.{seen_of, due-same, asked-same}
 -- ---- what the code notes
 
 -- the values of a row that the code ran and what it notes of it are those of the row
-pub record IsNoted (w : World) (m : ℕ) (row : Row) (cut : Cut) (x : Member) (reigned : Option ℤ) (raises : List Raise) (sent : List Sent) (reigns : List Reign) : Type 0 where
+record IsNoted (w : World) (m : ℕ) (row : Row) (cut : Cut) (x : Member) (reigned : Option ℤ) (raises : List Raise) (sent : List Sent) (reigns : List Reign) : Type 0 where
   pub within : m < length w.members
   pub member_is : x ≡ after row cut (stopped (member w m).durable)
   pub reigned_is : reigned ≡ reign_term (member w m)
@@ -42,7 +42,7 @@ pub record IsNoted (w : World) (m : ℕ) (row : Row) (cut : Cut) (x : Member) (r
   pub sent_is : sent ≡ sent_by row cut (stopped (member w m).durable)
   pub reigns_are : reigns ≡ reigns_from m (member w m).values.election.state row (member w m).durable.log cut
 
-pub row-noted : (w : World) (m : ℕ) (row : Row) (cut : Cut) (x : Member) (reigned : Option ℤ) (raises : List Raise) (sent : List Sent) (reigns : List Reign) → IsNoted w m row cut x reigned raises sent reigns
+row-noted : (w : World) (m : ℕ) (row : Row) (cut : Cut) (x : Member) (reigned : Option ℤ) (raises : List Raise) (sent : List Sent) (reigns : List Reign) → IsNoted w m row cut x reigned raises sent reigns
     → noting (with_member w m x) m reigned raises sent reigns ≡ acts w m row cut
 row-noted w m row cut x reigned raises sent reigns n =
     (λ i. noting (with_member w m (n.member_is i)) m (n.reigned_is i) (n.raises_are i) (n.sent_is i) (n.reigns_are i)) ∙ noting-acts w m row cut n.within
@@ -107,7 +107,7 @@ duty-made s m alive since cut es q on e =
 -- ---- deliveries
 
 -- the row of a packet that was sent to a running member is its step, and what it says can be spelled
-pub record IsDelivery (s : Seen) (which : ℕ) (o : Sent) (cut : CodeCut) : Type 0 where
+record IsDelivery (s : Seen) (which : ℕ) (o : Sent) (cut : CodeCut) : Type 0 where
   pub step_is : acts s.world o.to (row_of_packet (member s.world o.to) o.packet s.world.now) (cut_of cut) ≡ step s.world (step_of s (steps.Delivers which cut))
   pub speaks : SpeaksBy (member s.world o.to) (row_of_packet (member s.world o.to) o.packet s.world.now)
   pub spelled : IsPacket o.packet
@@ -133,6 +133,7 @@ pub record IsTaking (s : Seen) (which m : ℕ) (cut : CodeCut) : Type 0 where
   pub speaks : SpeaksBy (member s.world m) (row_of_packet (member s.world m) (sent_at s.world which).packet s.world.now)
   pub spelled : IsPacket (sent_at s.world which).packet
 
+-- what stands past the last packet
 abbrev no_packet : Sent
 no_packet = record { to = 0; packet = packets.Append (pos 0) (pos 0) (pos 0) }
 
@@ -143,7 +144,7 @@ taking-made s which m cut q inside to on =
     let made = delivery-made s which (sent_at s.world which) cut q (slice_get-get_or s.world.sent which no_packet inside) here in
     record { step_is = made.step_is; speaks = made.speaks; spelled = made.spelled }) on
 
--- the packet of this number, as it is found in the list
+-- it is found in the list
 pub packet-found : (s t : Seen) (which : ℕ) (o : Sent) → s ≡ t → which < length t.world.sent → o ≡ get_or s.world.sent which o → o ≡ sent_at t.world which
 packet-found s t which o view inside at =
     get_or_read s.world.sent which o (subst (λ (z : Seen). which < length z.world.sent) (sym view) inside) at no_packet ∙ ap (λ (z : Seen). sent_at z.world which) view
@@ -168,60 +169,14 @@ pub client-made : (s : Seen) (m : ℕ) (e : Event) (cut : CodeCut) → IsSpellab
 client-made s m e cut g q on asked =
     subst (λ (z : Seen). is_running z.world m ≡ true → is_asked z m e ≡ true → IsAsking z m e cut) (same-seen s q) (client-there q.members s.kinds (led_of s q) m e cut g (known-of s q)) on asked
 
-no-less : (n : ℕ) → nat_lt n 0 ≡ false
-no-less n = grind (arith, nat_tests)
-
-still-same : (w : World) → step w still ≡ w
-still-same w = ap (λ (b : Bool). record w { now = (if b then 0 else w.now) }) (no-less w.now)
-
--- ---- a guard that fails changes nothing
-
--- what code sees, where its world is this one
-abbrev pub with_world : Seen → World → Seen
-with_world s w = record { kinds = s.kinds; world = w; printed = s.printed }
-
--- an event that isn't asked, and one at a member that doesn't run
-pub client-still : (s : Seen) (m : ℕ) (e : Event) (cut : CodeCut) → is_asked s m e ≡ false → s ≡ with_world s (step s.world (step_of s (steps.Client m e cut)))
-client-still s m e cut unasked = sym (ap (with_world s) (ap (λ (b : Bool). step s.world (if b then Client m e (cut_of cut) else still)) unasked ∙ still-same s.world))
-
-pub client-down : (s : Seen) (m : ℕ) (e : Event) (cut : CodeCut) → is_running s.world m ≡ false → s ≡ with_world s (step s.world (step_of s (steps.Client m e cut)))
-client-down s m e cut off = sym (ap (with_world s) (at (is_asked s m e)))
-  where
-    row : World
-    row = acts s.world m (row_of_client (member s.world m) e) (cut_of cut)
-
-    at : (b : Bool) → step s.world (if b then Client m e (cut_of cut) else still) ≡ s.world
-    at true = ap (λ (r : Bool). if r && are_of (member s.world m).values.election.term (e ∷ []) then row else s.world) off
-    at false = still-same s.world
-
-pub duty-down : (s : Seen) (m : ℕ) (alive : List (ℤ × ℕ)) (since : ℕ) (cut : CodeCut) → is_running s.world m ≡ false → s ≡ with_world s (step s.world (step_of s (steps.Duty m alive since cut)))
-duty-down s m alive since cut off =
-    sym (ap (λ (r : Bool). with_world s (if r && are_of (member s.world m).values.election.term (due_here s m alive since) then acts s.world m (row_of_duty (member s.world m) (due_here s m alive since) s.world.now) (cut_of cut) else s.world)) off)
-
--- a packet that wasn't sent, and one to a member that doesn't run
-pub delivery-past : (s : Seen) (which : ℕ) (cut : CodeCut) → length s.world.sent ≤ which → s ≡ with_world s (step s.world (step_of s (steps.Delivers which cut)))
-delivery-past s which cut past = sym (ap (λ (o : Option Sent). with_world s (comes s.world o (cut_of cut))) (slice_get_past s.world.sent which past))
-
-pub delivery-down : (s : Seen) (which m : ℕ) (cut : CodeCut) → which < length s.world.sent → m ≡ (sent_at s.world which).to → is_running s.world m ≡ false → s ≡ with_world s (step s.world (step_of s (steps.Delivers which cut)))
-delivery-down s which m cut inside to off =
-    let o = sent_at s.world which in
-    let row = acts s.world o.to (row_of_packet (member s.world o.to) o.packet s.world.now) (cut_of cut) in
-    sym (ap (λ (z : Option Sent). with_world s (comes s.world z (cut_of cut))) (slice_get-get_or s.world.sent which no_packet inside)
-    ∙ ap (λ (r : Bool). with_world s (if r then row else s.world)) (ap (is_running s.world) (sym to) ∙ off))
-
 -- ---- a running member, as it is found in the list
 
-below : (m n : ℕ) → m < n → nat_lt m n ≡ true
-below m n h = grind (arith, nat_tests)
-
-beyond : (m n : ℕ) → n ≤ m → nat_lt m n ≡ false
-beyond m n h = grind (arith, nat_tests)
-
-pub found-in : (l : List Member) (m : ℕ) (x : Member) → m < length l → x ≡ get_or l m x → x ≡ slice_index_or l m (stopped fresh)
+found-in : (l : List Member) (m : ℕ) (x : Member) → m < length l → x ≡ get_or l m x → x ≡ slice_index_or l m (stopped fresh)
 found-in [] m x h e = absurd (omega arith)
 found-in (a ∷ l) zero x h e = e
 found-in (a ∷ l) (suc m) x h e = found-in l m x (omega arith) e
 
+-- a running member that the code found
 pub record Found (s : Seen) (m : ℕ) (x : Member) : Type 0 where
   pub reached : IsReached s
   pub on : is_running s.world m ≡ true
@@ -240,32 +195,6 @@ found s t m x view reached on at =
 pub runs-at : (s : Seen) (m : ℕ) (x : Member) → Found s m x → Runs x.values x.durable.log
 runs-at s m x f = subst (λ (y : Member). Runs y.values y.durable.log) (sym f.there) (runs_now s m f.reached)
 
--- what its row says can be spelled
-pub speaks-at : (s t : Seen) (m : ℕ) (x : Member) (row : Member → ℕ → Row) → Found s m x → s ≡ t → SpeaksBy (member t.world m) (row (member t.world m) t.world.now) → SpeaksBy x (row x s.world.now)
-speaks-at s t m x row f view h =
-    subst (λ (y : Member). SpeaksBy y (row y s.world.now)) (sym f.there)
-    (subst (λ (z : Seen). SpeaksBy (member z.world m) (row (member z.world m) z.world.now)) (sym view) h)
-
--- the list with another member there is as long
-pub still-within : (s : Seen) (m : ℕ) (x y : Member) → Found s m x → m < length (set s.world.members m y)
-still-within s m x y f = let l = f.within in let n = length-set s.world.members m y in omega (arith, l, n)
-
--- ---- whether a member runs, as it is found in the list
-
-pub running-is : (s t : Seen) (m : ℕ) (x : Member) (b : Bool) → s ≡ t → m < length s.world.members → x ≡ get_or s.world.members m x → b ≡ x.up → b ≡ is_running t.world m
-running-is s t m x b view inside at up =
-    up ∙ ap (λ (y : Member). y.up) (found-in s.world.members m x inside at) ∙ sym (ap (λ (z : Bool). z && (member s.world m).up) (below m (length s.world.members) inside)) ∙ ap (λ (z : Seen). is_running z.world m) view
-
-pub stopped-is : (s t : Seen) (m : ℕ) (x : Member) (b : Bool) → s ≡ t → m < length s.world.members → x ≡ get_or s.world.members m x → b ≡ x.up → not b ≡ is_stopped t.world m
-stopped-is s t m x b view inside at up =
-    ap not (up ∙ ap (λ (y : Member). y.up) (found-in s.world.members m x inside at)) ∙ sym (ap (λ (z : Bool). z && not (member s.world m).up) (below m (length s.world.members) inside)) ∙ ap (λ (z : Seen). is_stopped z.world m) view
-
-pub running-past : (s t : Seen) (m : ℕ) → s ≡ t → length s.world.members ≤ m → false ≡ is_running t.world m
-running-past s t m view past = sym (ap (λ (z : Bool). z && (member s.world m).up) (beyond m (length s.world.members) past)) ∙ ap (λ (z : Seen). is_running z.world m) view
-
-pub stopped-past : (s t : Seen) (m : ℕ) → s ≡ t → length s.world.members ≤ m → false ≡ is_stopped t.world m
-stopped-past s t m view past = sym (ap (λ (z : Bool). z && not (member s.world m).up) (beyond m (length s.world.members) past)) ∙ ap (λ (z : Seen). is_stopped z.world m) view
-
 -- ---- what a call leaves
 
 -- a row of a member that the code found: what it was, what it is, and what is noted of it
@@ -277,7 +206,7 @@ pub record Ran (s : Seen) (m : ℕ) (row : Member → Row) (cut : Cut) (x y : Me
   pub sent_is : sent ≡ sent_by (row x) cut (stopped x.durable)
   pub reigns_are : reigns ≡ reigns_from m x.values.election.state (row x) x.durable.log cut
 
-pub ran-acts : (s : Seen) (m : ℕ) (row : Member → Row) (cut : Cut) (x y : Member) (reigned : Option ℤ) (raises : List Raise) (sent : List Sent) (reigns : List Reign) → Ran s m row cut x y reigned raises sent reigns
+ran-acts : (s : Seen) (m : ℕ) (row : Member → Row) (cut : Cut) (x y : Member) (reigned : Option ℤ) (raises : List Raise) (sent : List Sent) (reigns : List Reign) → Ran s m row cut x y reigned raises sent reigns
     → noting (with_member s.world m y) m reigned raises sent reigns ≡ acts s.world m (row (member s.world m)) cut
 ran-acts s m row cut x y reigned raises sent reigns r =
     let f = r.found_is in
@@ -290,6 +219,10 @@ ran-acts s m row cut x y reigned raises sent reigns r =
       reigns_are = r.reigns_are ∙ ap (λ (a : Member). reigns_from m a.values.election.state (row a) a.durable.log cut) f.there;
     })
 
+-- what code sees, where its world is this one
+abbrev pub with_world : Seen → World → Seen
+with_world s w = record { kinds = s.kinds; world = w; printed = s.printed }
+
 -- what code sees after it
 pub acts-returns : (s t : Seen) (m : ℕ) (row : Member → ℕ → Row) (cut : Cut) (x y : Member) (reigned : Option ℤ) (raises : List Raise) (sent : List Sent) (reigns : List Reign) (new : Seen)
     → s ≡ t → Ran s m (λ (a : Member). row a s.world.now) cut x y reigned raises sent reigns
@@ -298,33 +231,3 @@ acts-returns s t m row cut x y reigned raises sent reigns new view r is =
     is
     ∙ ap (with_world s) (ran-acts s m (λ (a : Member). row a s.world.now) cut x y reigned raises sent reigns r)
     ∙ ap (λ (z : Seen). with_world z (acts z.world m (row (member z.world m) z.world.now) cut)) view
-
--- what code sees after a change without a row
-pub becomes-returns : (s t : Seen) (m : ℕ) (x y : Member) (reigned : Option ℤ) (new : Seen) → s ≡ t → m < length s.world.members → x ≡ get_or s.world.members m x → reigned ≡ reign_term x
-    → new ≡ with_world s (noting (with_member s.world m y) m reigned [] [] []) → new ≡ with_world t (becomes t.world m y)
-becomes-returns s t m x y reigned new view inside at was is =
-    is
-    ∙ ap (λ (r : Option ℤ). with_world s (noting (with_member s.world m y) m r [] [] [])) (was ∙ ap reign_term (found-in s.world.members m x inside at))
-    ∙ ap (with_world s) (noting-put s.world m y [] [] [] inside)
-    ∙ ap (λ (z : Seen). with_world z (becomes z.world m y)) view
-
-pub start-is : (t : Seen) (m : ℕ) (d : Durable) → is_stopped t.world m ≡ true → d ≡ (member t.world m).durable
-    → with_world t (becomes t.world m (starts m (length t.world.members) (length t.kinds) d)) ≡ with_world t (step t.world (Starts m (length t.kinds)))
-start-is t m d off is =
-    ap (λ (e : Durable). with_world t (becomes t.world m (starts m (length t.world.members) (length t.kinds) e))) is
-    ∙ sym (ap (λ (b : Bool). with_world t (if b then becomes t.world m (starts m (length t.world.members) (length t.kinds) (member t.world m).durable) else t.world)) off)
-
-pub start-up : (t : Seen) (m : ℕ) → is_stopped t.world m ≡ false → t ≡ with_world t (step t.world (Starts m (length t.kinds)))
-start-up t m on = sym (ap (λ (b : Bool). with_world t (if b then becomes t.world m (starts m (length t.world.members) (length t.kinds) (member t.world m).durable) else t.world)) on)
-
-pub stop-is : (t : Seen) (m : ℕ) (d : Durable) → is_running t.world m ≡ true → d ≡ (member t.world m).durable → with_world t (becomes t.world m (stopped d)) ≡ with_world t (step t.world (Stops m))
-stop-is t m d on is =
-    ap (λ (e : Durable). with_world t (becomes t.world m (stopped e))) is
-    ∙ sym (ap (λ (b : Bool). with_world t (if b then becomes t.world m (stops (member t.world m)) else t.world)) on)
-
-pub stop-down : (t : Seen) (m : ℕ) → is_running t.world m ≡ false → t ≡ with_world t (step t.world (Stops m))
-stop-down t m off = sym (ap (λ (b : Bool). with_world t (if b then becomes t.world m (stops (member t.world m)) else t.world)) off)
-
--- where it is found, its disk is that of the world's member
-pub disk-found : (s t : Seen) (m : ℕ) (x : Member) → s ≡ t → m < length s.world.members → x ≡ get_or s.world.members m x → x.durable ≡ (member t.world m).durable
-disk-found s t m x view inside at = ap (λ (y : Member). y.durable) (found-in s.world.members m x inside at) ∙ ap (λ (z : Seen). (member z.world m).durable) view

@@ -1,4 +1,4 @@
--- A row that the code runs at a member is the protocol's, and it leaves what that one leaves.
+-- A row that the code runs at a member is the protocol's, and leaves what that one leaves.
 use Rattle.std.proofs.Common.{◌≡◌, ◌≤◌, ℕ, Bool, true, false, List, [], ◌∷◌, length, Option, None, Some, refl, sym, ap, ◌∙◌, subst, if◌then◌else◌}
 use Rattle.std.proofs.lemmas.List.{length-map}
 use Rattle.entry_log.specs.Durable.{Durable}
@@ -45,6 +45,7 @@ client_row x e v h c was values held change state =
 
 -- ---- what it leaves
 
+-- what a row of a member with this disk leaves
 pub record Leaves (m : ℕ) (was : State) (row : Row) (cut : Cut) (d : Durable) (y : Member) (raises : List Raise) (sent : List Sent) (reigns : List Reign) : Type 0 where
   pub member_is : y ≡ after row cut (stopped d)
   pub raises_are : raises ≡ raises_by m d.log row.change cut
@@ -58,26 +59,3 @@ leaves m x z was ran row cut y raises sent reigns out state is l =
     subst (λ (d : Durable). Leaves m x.values.election.state row cut d y raises sent reigns) (ap (λ (a : Member). a.durable) out)
     (subst (λ (s : State). Leaves m s row cut z.durable y raises sent reigns) state
     (subst (λ (r : Row). Leaves m was r cut z.durable y raises sent reigns) is l))
-
-pub speaks-run : (x z : Member) (ran row : Row) → z ≡ stopped x.durable → ran ≡ row → SpeaksBy x row → SpeaksBy z ran
-speaks-run x z ran row out is h =
-    subst (λ (r : Row). SpeaksBy z r) (sym is) (subst (λ (d : Durable). SpeaksBy (record { up = false; values = z.values; durable = d }) row) (sym (ap (λ (a : Member). a.durable) out)) h)
-
--- ---- its parts
-
--- the disk and the values of a member that the code opened
-pub disk_of : (o : Option Held) (d : Durable) → (member_of o d).durable ≡ d
-disk_of None d = refl
-disk_of (Some h) d = refl
-
-pub log-opened : (o : Option Held) (d : Durable) (x : Member) → member_of o d ≡ x → LogFits x.durable.log → LogFits d.log
-log-opened o d x view h = subst LogFits (sym (ap (λ (a : Member). a.durable.log) view) ∙ ap (λ (e : Durable). e.log) (disk_of o d)) h
-
-pub values-opened : (o : Option Held) (d : Durable) (x : Member) (h : Held) → member_of o d ≡ x → o ≡ Some h → h.values ≡ x.values
-values-opened o d x h view is = sym (ap (λ (p : Option Held). (member_of p d).values) is) ∙ ap (λ (a : Member). a.values) view
-
-pub not-stopped : (o : Option Held) (d : Durable) (x : Member) → member_of o d ≡ x → x.up ≡ true → o ≡ None → ⊥
-not-stopped o d x view up none = absurd (let off : false ≡ true = sym (ap (λ (p : Option Held). (member_of p d).up) none) ∙ ap (λ (a : Member). a.up) view ∙ up in cc)
-
-pub length_of_shape : (log : Log) → length (shape_of log) ≡ length log
-length_of_shape log = length-map log entry_shape

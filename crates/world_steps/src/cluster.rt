@@ -140,7 +140,8 @@ impl World {
         if number >= self.members.len() {
             return false;
         }
-        !self.members[number].is_up()
+        let found = &self.members[number];
+        !found.is_up()
     }
 
     /// Time rises.

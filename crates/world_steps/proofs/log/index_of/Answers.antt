@@ -1,7 +1,7 @@
 -- Entry by entry.
-use Rattle.std.proofs.Common.{rules, ◌≡◌, ◌+◌, ◌∷◌, ◌++◌, [], drop, subst, sym, ap, ◌∙◌, arith}
+use Rattle.std.proofs.Common.{rules, ◌+◌, ◌++◌, drop, subst, sym, ap, ◌∙◌}
 use Rattle.entry_log.specs.Log.{Log}
-use Rattle.entry_log.specs.Shape.{Shape, entry_shape, shape_of}
+use Rattle.entry_log.specs.Shape.{Shape, shape_of}
 use Rattle.world_steps.specs.Fit.{CanIndex}
 use Rattle.world_steps.proofs.Logs.{drop_here, can-next, shift}
 use Rattle.world_steps.proofs.log.index_of.Goals as goal

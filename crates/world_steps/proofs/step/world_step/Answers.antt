@@ -1,5 +1,5 @@
 -- A step that is made and printed.
-use Rattle.world_steps.proofs.Promised.{IsStep, is-step}
+use Rattle.world_steps.proofs.Promised.{is-step}
 use Rattle.world_steps.proofs.step.world_step.Goals as goal
 
 pub returns-clause-step : goal.returns-clause-step

@@ -1,6 +1,4 @@
-use Rattle.std.proofs.Common.{◌≡◌, ◌≤◌, ◌^◌, FitsSigned, w64, pos, rules, arith, sym, ap, subst, ◌∙◌}
-use Rattle.entry_log.specs.Log.{Log}
-use Rattle.consensus_core.specs.Member.{Member}
+use Rattle.std.proofs.Common.{◌≤◌, ◌^◌, rules, sym, ap, subst, ◌∙◌}
 use Rattle.entry_log.specs.Durable.{Durable}
 use Rattle.world_steps.specs.Fit.{LogFits}
 use Rattle.world_steps.specs.Steps.{Seen}

@@ -1,4 +1,4 @@
-use Rattle.std.proofs.Common.{◌≡◌, ap, ◌∙◌}
+use Rattle.std.proofs.Common.{ap, ◌∙◌}
 use Rattle.consensus_core.specs.Member.{row_of_packet}
 use Rattle.consensus_core.specs.declared.values.Values.{Values}
 use Rattle.world_steps.specs.Members.{cut_of}
