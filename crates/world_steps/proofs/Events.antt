@@ -1,7 +1,6 @@
 -- Events of entries.
-use Rattle.std.proofs.Common.{◌≡◌, ℕ, List, Option, None, Some, refl}
+use Rattle.std.proofs.Common.{◌≡◌, ℕ, List, None, Some, refl}
 use Rattle.wire_prims.specs.declared.fault.Bad.{Bad}
-use Rattle.sbe_events.specs.declared.event.Event.{Event}
 use Rattle.sbe_events.specs.Spelling.{event_of, first_fault}
 
 -- bytes with a fault are no event

@@ -1,10 +1,10 @@
 -- What is so of the logs of worlds that are reached.
-use Rattle.std.proofs.Common.{◌≡◌, ℕ, ◌<◌, ◌≤◌, ◌^◌, true, List, [], ◌∷◌, ◌++◌, length, refl, sym, ap, ◌∙◌, subst, arith, ℤ, pos, negsuc, ◌≤ℤ◌}
+use Rattle.std.proofs.Common.{ℕ, ◌^◌, List, [], ◌∷◌, refl, sym, ap, subst, arith, ℤ, pos, negsuc, ◌≤ℤ◌}
 use Rattle.std.specs.List.{AllByRecursion}
 use Rattle.std.proofs.lemmas.Int.{ints}
 use Rattle.std.proofs.lemmas.List.{append-nil}
-use Rattle.entry_log.specs.Log.{Log, last, place, Rises, RisesFrom}
-use Rattle.entry_log.specs.Shape.{shape_of, end_of, last_term_of, TermsRiseFrom}
+use Rattle.entry_log.specs.Log.{Log, last, Rises, RisesFrom}
+use Rattle.entry_log.specs.Shape.{shape_of, TermsRiseFrom}
 use Rattle.log_replication.specs.Replication.{IsAnchored}
 use Rattle.log_replication.specs.Prefixes.{leads, Rises-front}
 use Rattle.sbe_events.specs.Laws.{encoded}

@@ -6,11 +6,11 @@ use Rattle.entry_log.specs.Durable.{fresh}
 use Rattle.service_api.specs.declared.shipped.Kind.{Kind}
 use Rattle.consensus_core.specs.Fit.{IsFit, IsTerm}
 use Rattle.consensus_core.specs.Member.{Member, stopped}
-use Rattle.world.specs.World.{World, member, formatted}
+use Rattle.world.specs.World.{formatted}
 use Rattle.world.proofs.Effects.{none_in}
 use Rattle.agreement.proofs.Runs2.{all-fresh}
 use Rattle.run_world.specs.Lawful.{IsSpelled, IsLeader}
-use Rattle.world_steps.specs.Steps.{Seen, IsReached, first_seen}
+use Rattle.world_steps.specs.Steps.{IsReached, first_seen}
 
 first-spelled : (n : ℕ) → IsSpelled (formatted n)
 first-spelled n = record {

@@ -1,6 +1,6 @@
 -- What each step keeps: that no service consumed anything, and that all numbers are in their ranges.
-use Rattle.std.proofs.Common.{◌≡◌, ◌≢◌, ◌⊎◌, inl, inr, ℕ, ◌<◌, ◌≤◌, ◌^◌, ◌-◌, Bool, true, false, ◌&&◌, List, [], ◌∷◌, ◌++◌, length, set, take, drop, Option, Some, None, refl, sym, ap, ◌∙◌, subst, arith, ℤ, negsuc, pos, ◌≤ℤ◌, if◌then◌else◌, get_or-set_same, get_or-set_other}
-use Rattle.std.specs.Prelude.{Contains, nat_lt, nat_le, not, slice_get, slice_index_or}
+use Rattle.std.proofs.Common.{◌≡◌, ◌≢◌, inl, inr, ℕ, ◌<◌, ◌≤◌, Bool, true, false, List, [], length, set, take, Option, refl, sym, ap, ◌∙◌, subst, arith, ℤ, get_or-set_same, get_or-set_other}
+use Rattle.std.specs.Prelude.{nat_lt, not, slice_index_or}
 use Rattle.std.proofs.lemmas.Int.{ints}
 use Rattle.std.proofs.lemmas.Bool.{cases_eq}
 use Rattle.std.proofs.lemmas.Bool.Decides.{nat_tests}
@@ -8,19 +8,17 @@ use Rattle.entry_log.specs.Durable.{Durable, fresh, first_commit, latest_set, en
 use Rattle.entry_log.specs.Log.{Log}
 use Rattle.entry_log.specs.Shape.{shape_of}
 use Rattle.election.specs.Rows.{begins}
-use Rattle.sbe_events.specs.declared.event.Event.{Event}
-use Rattle.service_api.specs.declared.shipped.Kind.{Kind}
-use Rattle.consensus_core.specs.Fit.{IsFit, IsTerm, IsSound}
-use Rattle.consensus_core.specs.Member.{Member, Sent, Cut, Whole, Before, After, stopped, after, changed, starts, stops}
+use Rattle.consensus_core.specs.Fit.{IsFit, IsTerm}
+use Rattle.consensus_core.specs.Member.{Member, Cut, Whole, Before, After, stopped, after, changed, starts, stops}
 use Rattle.consensus_core.specs.declared.change.Change.{Change}
 use Rattle.consensus_core.specs.declared.change.Change.TheVariants as changes
 use Rattle.consensus_core.specs.declared.row.Row.{Row}
-use Rattle.world.specs.World.{World, Step, Passes, Starts, Stops, member, acts, becomes, step, is_running, is_stopped}
+use Rattle.world.specs.World.{World, Passes, Starts, Stops, member, acts, becomes, step, is_running, is_stopped}
 use Rattle.world.proofs.Effects.{if-cases}
 use Rattle.world.proofs.Rows.{and_true}
-use Rattle.service_runs.specs.Hosts.{Rules, Host, Hosted, Stage, Idle, no_host, begun, follow, marked, noted}
+use Rattle.service_runs.specs.Hosts.{Rules, Host, Hosted, Idle, follow, marked, noted}
 use Rattle.one_log.specs.Led.{Led, consumes, further}
-use Rattle.run_world.specs.Lawful.{IsSpelled, IsLeader}
+use Rattle.run_world.specs.Lawful.{IsSpelled}
 use Rattle.run_world.proofs.Spelled.{put-spelled}
 use Rattle.world_steps.specs.Steps.{IsQuiet}
 use Rattle.world_steps.proofs.Turned.{noted_led}

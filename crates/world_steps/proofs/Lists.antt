@@ -1,5 +1,5 @@
 -- Lists of members, and what is printed.
-use Rattle.std.proofs.Common.{◌≡◌, ℕ, zero, suc, ◌+◌, List, [], ◌∷◌, ◌++◌, length, replicate, take, refl, sym, ap, ◌∙◌}
+use Rattle.std.proofs.Common.{◌≡◌, ℕ, zero, suc, ◌+◌, [], ◌∷◌, ◌++◌, replicate, take, refl, ap}
 use Rattle.std.proofs.lemmas.List.{replicate-append-replicate}
 use Rattle.entry_log.specs.Log.{Log}
 use Rattle.world.specs.World.{World, member}

@@ -4,7 +4,7 @@ use Rattle.std.proofs.Math.Seq.{drop-cons}
 use Rattle.cl_base.specs.declared.entry.Entry.{Entry}
 use Rattle.entry_log.specs.Log.{Log, end_after, place}
 use Rattle.entry_log.specs.Places.{place_from-append}
-use Rattle.entry_log.specs.Shape.{Shape, EntryShape, entry_shape, shape_of, end_of, end_from, last_term_of, last_term_from, TermsRiseFrom, end_from-shape_of}
+use Rattle.entry_log.specs.Shape.{Shape, entry_shape, shape_of, end_of, end_from, last_term_of, last_term_from, TermsRiseFrom, end_from-shape_of}
 use Rattle.entry_log.specs.PlaceLaws.{end_from-up}
 use Rattle.consensus_core.proofs.Measured.{event_short}
 use Rattle.world_steps.specs.Fit.{CanIndex}

@@ -1,10 +1,9 @@
 -- A row that the code ran at a member is the protocol's step, and what it says can be spelled.
-use Rattle.std.proofs.Common.{◌≡◌, ℕ, zero, suc, ◌<◌, ◌≤◌, get_or, set, length-set, pos, arith, Bool, true, false, ◌&&◌, List, [], ◌∷◌, ◌++◌, length, Option, Some, None, refl, sym, ap, ◌∙◌, subst, ℤ, if◌then◌else◌}
-use Rattle.std.specs.Prelude.{nat_lt, not, slice_get, slice_index_or}
-use Rattle.std.proofs.lemmas.Option.{slice_get-get_or, slice_get_past}
+use Rattle.std.proofs.Common.{◌≡◌, ℕ, zero, suc, ◌<◌, get_or, pos, arith, Bool, true, false, ◌&&◌, List, [], ◌∷◌, length, Option, Some, refl, sym, ap, ◌∙◌, subst, ℤ, if◌then◌else◌}
+use Rattle.std.specs.Prelude.{slice_get, slice_index_or}
+use Rattle.std.proofs.lemmas.Option.{slice_get-get_or}
 use Rattle.std.proofs.lemmas.List.{get_or_read}
-use Rattle.std.proofs.lemmas.Bool.Decides.{nat_tests}
-use Rattle.entry_log.specs.Durable.{Durable, fresh}
+use Rattle.entry_log.specs.Durable.{fresh}
 use Rattle.entry_log.specs.Shape.{Shape, shape_of}
 use Rattle.election.specs.declared.member.State.{State}
 use Rattle.election.specs.declared.member.State.TheVariants.{Init, Canvass, Nominate, CandidateBallot, FollowerBallot, LeaderInit, LeaderReady, FollowerLogReplication, FollowerReady, Closed}
@@ -13,21 +12,21 @@ use Rattle.sbe_consensus.specs.Spelling.{HasSpelling as IsPacket}
 use Rattle.sbe_consensus.specs.declared.packet.Packet.TheVariants as packets
 use Rattle.service_api.specs.declared.shipped.Kind.{Kind}
 use Rattle.module_state.specs.Entries.{IsSpellable}
-use Rattle.consensus_core.specs.Member.{Member, Sent, Cut, stopped, after, sent_by, is_ready, row_of_packet, row_of_duty, row_of_client, starts, stops}
+use Rattle.consensus_core.specs.Member.{Member, Sent, Cut, stopped, after, sent_by, is_ready, row_of_packet, row_of_duty, row_of_client}
 use Rattle.consensus_core.specs.Reign.{duty_at}
 use Rattle.consensus_core.specs.declared.row.Row.{Row}
 use Rattle.consensus_core.specs.declared.values.Values.{Values}
-use Rattle.world.specs.World.{World, Raise, Reign, Step, Starts, Stops, Client, member, acts, becomes, step, comes, is_running, is_stopped, are_of, raises_by}
+use Rattle.world.specs.World.{World, Raise, Reign, member, acts, step, is_running, are_of, raises_by}
 use Rattle.one_log.specs.Led.{Led}
 use Rattle.one_log.proofs.Turns.{due-passes, asked-passes}
 use Rattle.world.proofs.Runs.{runs}
 use Rattle.world_steps.specs.Fit.{Runs, SpeaksBy}
 use Rattle.world_steps.specs.Members.{cut_of, reign_term, reigns_from}
-use Rattle.world_steps.specs.Steps.{Seen, IsReached, still, due_at as due_here, due_if_ready, is_asked, noting, sent_at, step_of}
+use Rattle.world_steps.specs.Steps.{Seen, IsReached, due_at as due_here, due_if_ready, is_asked, noting, sent_at, step_of}
 use Rattle.world_steps.specs.declared.cut.Cut.{Cut as CodeCut}
 use Rattle.world_steps.specs.declared.cut.Cut.TheVariants as cuts
 use Rattle.world_steps.specs.declared.step.Step.TheVariants as steps
-use Rattle.world_steps.proofs.Noting.{with_member, noting-put, noting-acts}
+use Rattle.world_steps.proofs.Noting.{with_member, noting-acts}
 use Rattle.world_steps.proofs.Reached.{Known, led_of, known-of, same-seen, row-speaks, duty-row, packet-row, client-row, duty-is, delivery-is, client-is, sent-there, runs_now}
 use Rattle.world_steps.proofs.Turned.{seen_of, due-same, asked-same}
 

@@ -1,6 +1,5 @@
 -- What the code notes of a member that changed is what the world notes.
-use Rattle.std.proofs.Common.{◌≡◌, ℕ, ◌<◌, Bool, true, false, ◌&&◌, List, [], ◌∷◌, ◌++◌, length, set, Option, Some, None, refl, sym, ap, ◌∙◌, subst, ℤ, if◌then◌else◌, get_or-set_same}
-use Rattle.std.specs.Prelude.{not}
+use Rattle.std.proofs.Common.{◌≡◌, ℕ, ◌<◌, Bool, true, false, List, [], ◌∷◌, ◌++◌, length, set, Some, None, refl, ap, ◌∙◌, if◌then◌else◌, get_or-set_same}
 use Rattle.entry_log.specs.Durable.{fresh}
 use Rattle.entry_log.specs.Log.{Log}
 use Rattle.consensus_core.specs.Member.{Member, Sent, Cut, Whole, Before, After, stopped, after, sent_by}

@@ -1,28 +1,27 @@
 -- A step of a world that is reached leads to one that is reached, and what its calls need is so.
-use Rattle.std.proofs.Common.{◌≡◌, ℕ, ◌<◌, ◌≤◌, ◌^◌, Bool, true, false, ◌&&◌, List, [], ◌∷◌, ◌++◌, length, set, take, Option, Some, None, refl, sym, ap, ◌∙◌, subst, arith, ℤ, pos, if◌then◌else◌, length-set, get_or-set_same}
+use Rattle.std.proofs.Common.{◌≡◌, ℕ, ◌<◌, ◌≤◌, ◌^◌, Bool, true, false, ◌&&◌, List, [], ◌∷◌, ◌++◌, length, Option, Some, None, refl, sym, ap, ◌∙◌, subst, arith, ℤ, if◌then◌else◌, get_or-set_same}
 use Rattle.std.specs.Prelude.{Contains, nat_le, slice_get, slice_index_or, unwrap_or}
-use Rattle.std.proofs.lemmas.Bool.Decides.{nat_tests}
 use Rattle.std.proofs.lemmas.Option.{slice_get_within, unwrap_or-slice_get}
 use Rattle.entry_log.specs.Log.{Log}
 use Rattle.entry_log.specs.Shape.{shape_of}
 use Rattle.sbe_events.specs.declared.event.Event.{Event}
 use Rattle.service_api.specs.declared.shipped.Kind.{Kind}
-use Rattle.consensus_core.specs.Fit.{IsFit, IsTerm, IsSound}
-use Rattle.consensus_core.specs.Member.{Member, Sent, Cut, Whole, Before, After, stopped, after, changed, changed_log, is_ready, row_of_packet, row_of_duty, row_of_client}
+use Rattle.consensus_core.specs.Fit.{IsSound}
+use Rattle.consensus_core.specs.Member.{Member, Sent, Cut, Whole, stopped, after, changed, changed_log, is_ready, row_of_packet, row_of_duty, row_of_client}
 use Rattle.consensus_core.specs.declared.change.Change.{Change}
 use Rattle.consensus_core.specs.declared.change.Change.TheVariants as changes
 use Rattle.entry_log.specs.Durable.{Durable, fresh}
 use Rattle.consensus_core.specs.declared.row.Row.{Row}
 use Rattle.consensus_core.proofs.Fitting.{receives_fit, duty_fits}
-use Rattle.world.specs.World.{World, Step, Passes, Starts, Stops, Duty, Delivers, Client, member, acts, step, comes, is_running, are_of}
+use Rattle.world.specs.World.{World, Passes, Client, member, acts, step, comes, is_running, are_of}
 use Rattle.world.proofs.Effects.{if-cases}
-use Rattle.world.proofs.Kept.{Inv, member-put_same}
+use Rattle.world.proofs.Kept.{Inv}
 use Rattle.world.proofs.Rows.{and_true}
 use Rattle.world.proofs.Runs.{runs}
 use Rattle.agreement.proofs.Second.{Fits}
-use Rattle.service_runs.specs.Hosts.{Rules, Hosted, noted, printed_by}
-use Rattle.service_runs.proofs.Held.{Held, up-below}
-use Rattle.one_log.specs.Led.{Led, Turn, turn, turns, led}
+use Rattle.service_runs.specs.Hosts.{printed_by}
+use Rattle.service_runs.proofs.Held.{up-below}
+use Rattle.one_log.specs.Led.{Led, turns, led}
 use Rattle.one_log.specs.Ruled.{rules_of}
 use Rattle.one_log.proofs.Formed.{Formed}
 use Rattle.one_log.proofs.Turns.{Stays, stays, turn-stays}

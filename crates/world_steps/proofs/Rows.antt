@@ -1,9 +1,7 @@
 -- A row that the code runs at a member is the protocol's, and leaves what that one leaves.
-use Rattle.std.proofs.Common.{◌≡◌, ◌≤◌, ℕ, Bool, true, false, List, [], ◌∷◌, length, Option, None, Some, refl, sym, ap, ◌∙◌, subst, if◌then◌else◌}
-use Rattle.std.proofs.lemmas.List.{length-map}
+use Rattle.std.proofs.Common.{◌≡◌, ℕ, Bool, true, false, List, [], ◌∷◌, refl, ap, ◌∙◌, subst, if◌then◌else◌}
 use Rattle.entry_log.specs.Durable.{Durable}
-use Rattle.entry_log.specs.Log.{Log}
-use Rattle.entry_log.specs.Shape.{Shape, entry_shape, shape_of}
+use Rattle.entry_log.specs.Shape.{Shape, shape_of}
 use Rattle.election.specs.declared.member.State.{State}
 use Rattle.sbe_consensus.specs.declared.packet.Packet.{Packet}
 use Rattle.sbe_events.specs.declared.event.Event.{Event}
@@ -17,8 +15,7 @@ use Rattle.consensus_core.specs.declared.plan.Plan.TheVariants as plans
 use Rattle.consensus_core.specs.declared.row.Row.{Row}
 use Rattle.consensus_core.specs.declared.values.Values.{Values}
 use Rattle.world.specs.World.{Raise, Reign, raises_by}
-use Rattle.world_steps.specs.Fit.{LogFits, SpeaksBy}
-use Rattle.world_steps.specs.Members.{row_run, member_of, reigns_from, change_of_client}
+use Rattle.world_steps.specs.Members.{row_run, reigns_from, change_of_client}
 
 -- ---- the row
 

@@ -1,5 +1,5 @@
 -- What is said of a log of events can be spelled, and is read as it was said.
-use Rattle.std.proofs.Common.{◌≡◌, ℕ, zero, suc, ◌≤◌, ◌^◌, Bool, true, false, ◌&&◌, List, [], ◌∷◌, ◌++◌, length, map, take, drop, Option, Some, None, refl, sym, ap, ◌∙◌, subst, arith, ℤ, pos, if◌then◌else◌}
+use Rattle.std.proofs.Common.{◌≡◌, ℕ, zero, suc, ◌≤◌, Bool, true, false, ◌&&◌, List, [], ◌∷◌, ◌++◌, length, map, take, drop, Option, Some, None, refl, sym, ap, ◌∙◌, subst, arith, if◌then◌else◌}
 use Rattle.std.specs.Prelude.{⊤, not, nat_lt, nat_eq, is_none, slice_index_or}
 use Rattle.std.specs.List.{AllByRecursion}
 use Rattle.std.proofs.lemmas.List.{drop-map, length-map}
@@ -8,7 +8,7 @@ use Rattle.entry_log.specs.Log.{Log}
 use Rattle.entry_log.specs.Shape.{Shape, entry_shape, shape_of, end_of, ends_by}
 use Rattle.entry_log.specs.Batches.{is_batch}
 use Rattle.sbe_consensus.specs.Laws.{encoded}
-use Rattle.sbe_consensus.specs.Spelling.{HasSpelling, AreEntries, packet_of as read_packet, spelling_of}
+use Rattle.sbe_consensus.specs.Spelling.{HasSpelling, AreEntries}
 use Rattle.sbe_consensus.specs.declared.packet.Outgoing.{Outgoing}
 use Rattle.sbe_consensus.specs.declared.packet.Packet.{Packet}
 use Rattle.consensus_core.specs.Member.{Sent, said, speaks, entries_in, spelled_packet}

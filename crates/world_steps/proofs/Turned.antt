@@ -1,16 +1,15 @@
 -- Each step of the code is one turn of the world with its services and modules.
-use Rattle.std.proofs.Common.{◌≡◌, ℕ, ◌≤◌, ◌^◌, Bool, true, false, ◌&&◌, List, [], ◌∷◌, ◌++◌, length, drop, Option, Some, None, refl, sym, ap, ◌∙◌, subst, ℤ, if◌then◌else◌}
+use Rattle.std.proofs.Common.{◌≡◌, ℕ, ◌^◌, Bool, true, false, ◌&&◌, List, length, drop, Option, Some, None, refl, ap, ◌∙◌, ℤ, if◌then◌else◌}
 use Rattle.std.specs.Prelude.{nat_le, slice_get}
 use Rattle.sbe_events.specs.declared.event.Event.{Event}
 use Rattle.service_api.specs.declared.shipped.Kind.{Kind}
 use Rattle.module_state.specs.Entries.{events_in}
 use Rattle.module_state.specs.Logs.{due_in}
 use Rattle.entry_log.specs.Log.{Log}
-use Rattle.consensus_core.specs.Member.{Member, Sent}
-use Rattle.world.specs.World.{World, Step, Passes, Starts, Stops, Duty, Delivers, Client, member, step}
-use Rattle.world.proofs.Effects.{if-cases}
-use Rattle.service_runs.specs.Hosts.{Rules, Hosted, Act, Rows, Mounts, Stage, Idle, Taking, act, noted, is_free, is_row, lets_at, lets_rows, lets_packet}
-use Rattle.one_log.specs.Led.{Led, Turn, Acts, Leads, Asks, consumes, goes_on, is_bare, turn, due_at as due_there, is_asked as asked_there}
+use Rattle.consensus_core.specs.Member.{Sent}
+use Rattle.world.specs.World.{World, Step, Passes, Duty, Delivers, Client, member, step}
+use Rattle.service_runs.specs.Hosts.{Rules, Hosted, Act, Rows, act, noted, is_free, is_row, lets_at, lets_rows, lets_packet}
+use Rattle.one_log.specs.Led.{Led, Acts, Asks, consumes, goes_on, is_bare, turn, due_at as due_there, is_asked as asked_there}
 use Rattle.one_log.specs.Ruled.{rules_of}
 use Rattle.world_steps.specs.Members.{cut_of}
 use Rattle.world_steps.specs.Steps.{Seen, IsQuiet, IsGiven, still, due_at, is_asked, step_of, turn_of}

@@ -1,5 +1,5 @@
 -- Logs that can be sent and indexed.
-use Rattle.std.specs.Prelude.{◌≡◌, ◌≤◌, ◌^◌, pos, negsuc, ◌≤ℤ◌, true, length, List, [], ◌∷◌, ⊤}
+use Rattle.std.specs.Prelude.{◌≡◌, ◌≤◌, ◌^◌, pos, negsuc, ◌≤ℤ◌, length, List, [], ◌∷◌, ⊤}
 use Rattle.entry_log.specs.Log.{Log}
 use Rattle.entry_log.specs.Shape.{Shape, shape_of, end_of, end_from, last_term_of, TermsRiseFrom}
 use Rattle.sbe_consensus.specs.Spelling.{AreEntries, HasSpelling, spelling_of}

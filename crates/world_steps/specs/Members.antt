@@ -1,6 +1,5 @@
 -- One member as code keeps it, and what a row of it notes.
-use Rattle.std.specs.Prelude.{ℕ, ℤ, Bool, true, false, not, ◌&&◌, if◌then◌else◌, List, [], ◌∷◌, ◌++◌, Option, Some, None}
-use Rattle.cl_base.specs.declared.entry.Entry.{Entry}
+use Rattle.std.specs.Prelude.{ℕ, ℤ, true, not, ◌&&◌, if◌then◌else◌, List, [], ◌∷◌, Option, Some, None}
 use Rattle.entry_log.specs.Durable.{Durable}
 use Rattle.entry_log.specs.Log.{Log}
 use Rattle.election.specs.declared.member.State.{State}
@@ -14,7 +13,7 @@ use Rattle.consensus_core.specs.declared.row.Row.{Row}
 use Rattle.sbe_events.specs.declared.event.Event.{Event}
 use Rattle.consensus_core.specs.Reign.{entry_of}
 use Rattle.consensus_core.specs.declared.change.Change.TheVariants as changes
-use Rattle.world.specs.World.{Raise, Reign, is_elected, raises_by, holds_at, reigns_at}
+use Rattle.world.specs.World.{Reign, is_elected, holds_at, reigns_at}
 use Rattle.world_steps.specs.declared.cut.Cut.{Cut as CodeCut}
 use Rattle.world_steps.specs.declared.cut.Cut.TheVariants as cuts
 

@@ -1,5 +1,5 @@
 -- What is promised of each world that is reached, besides what is promised of its members alone.
-use Rattle.std.specs.Prelude.{◌≡◌, ℕ, ◌≤◌, ◌≤ℤ◌, true, length, take}
+use Rattle.std.specs.Prelude.{◌≡◌, ℕ, ◌≤◌, ◌≤ℤ◌, true, take}
 use Rattle.entry_log.specs.Log.{IsPrefixOf}
 use Rattle.module_state.specs.Entries.{events_in}
 use Rattle.world.specs.World.{World, member}

@@ -1,7 +1,6 @@
 -- What code sees of a world, which step of the protocol each of its steps is, and which worlds are reached by steps.
-use Rattle.std.specs.Prelude.{◌≡◌, ⊤, ℕ, zero, suc, take, slice_index_or, ◌≤◌, ◌^◌, ℤ, pos, Bool, true, ◌&&◌, nat_le, if◌then◌else◌, List, [], ◌∷◌, ◌++◌, length, Option, Some, None}
+use Rattle.std.specs.Prelude.{◌≡◌, ⊤, ℕ, zero, suc, take, slice_index_or, ◌≤◌, ◌^◌, ℤ, pos, Bool, ◌&&◌, nat_le, if◌then◌else◌, List, [], ◌∷◌, ◌++◌, length, Option, Some, None}
 use Rattle.std.specs.Ordering.{int_eq}
-use Rattle.cl_base.specs.declared.entry.Entry.{Entry}
 use Rattle.entry_log.specs.Durable.{fresh}
 use Rattle.entry_log.specs.Log.{Log, place}
 use Rattle.sbe_events.specs.declared.event.Event.{Event}

@@ -1,5 +1,5 @@
-use Rattle.std.proofs.Common.{sym, ap, ◌∙◌}
-use Rattle.world_steps.proofs.Made.{client-made, client-down, client-still, with_world}
+use Rattle.std.proofs.Common.{sym, ◌∙◌}
+use Rattle.world_steps.proofs.Made.{client-made}
 use Rattle.world_steps.proofs.cluster.World.client.Goals as goal
 
 pub appends-requires-clause-speaks : goal.appends-requires-clause-speaks

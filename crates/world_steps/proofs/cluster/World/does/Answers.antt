@@ -1,8 +1,8 @@
-use Rattle.std.proofs.Common.{◌≡◌, ◌≤◌, ℕ, ◌^◌, sym, ap, subst, ◌∙◌}
+use Rattle.std.proofs.Common.{◌≤◌, ℕ, ◌^◌, sym, ap, subst, ◌∙◌}
 use Rattle.consensus_core.specs.Member.{Member, row_of_duty}
 use Rattle.world_steps.specs.Members.{cut_of, reign_term}
 use Rattle.world_steps.specs.Steps.{Seen}
-use Rattle.world_steps.proofs.Made.{found, runs-at, speaks-at, still-within, acts-returns}
+use Rattle.world_steps.proofs.Made.{found, runs-at, acts-returns}
 use Rattle.world_steps.proofs.Reached.{now_low}
 use Rattle.world_steps.proofs.cluster.World.does.Goals as goal
 

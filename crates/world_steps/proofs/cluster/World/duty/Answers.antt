@@ -1,7 +1,5 @@
-use Rattle.std.proofs.Common.{sym, ap, subst, ◌∙◌}
-use Rattle.std.specs.Prelude.{All}
-use Rattle.sbe_events.specs.Spelling.{HasSpelling}
-use Rattle.world_steps.proofs.Made.{duty-made, duty-down, with_world}
+use Rattle.std.proofs.Common.{sym, ap, ◌∙◌}
+use Rattle.world_steps.proofs.Made.{duty-made, with_world}
 use Rattle.world_steps.proofs.cluster.World.duty.Goals as goal
 
 pub does-requires-clause-speaks : goal.does-requires-clause-speaks

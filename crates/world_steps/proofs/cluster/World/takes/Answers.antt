@@ -1,12 +1,10 @@
 use Rattle.std.proofs.Common.{◌≡◌, ◌≤◌, ℕ, ◌^◌, sym, ap, subst, ◌∙◌}
-use Rattle.sbe_consensus.specs.Spelling.{HasSpelling}
 use Rattle.sbe_consensus.specs.declared.packet.Packet.{Packet}
 use Rattle.consensus_core.specs.Member.{Member, Sent, row_of_packet}
 use Rattle.world.specs.World.{acts, member}
-use Rattle.world_steps.specs.Fit.{SpeaksBy}
 use Rattle.world_steps.specs.Members.{cut_of, reign_term}
 use Rattle.world_steps.specs.Steps.{Seen, sent_at}
-use Rattle.world_steps.proofs.Made.{found, runs-at, speaks-at, still-within, acts-returns, packet-found, with_world}
+use Rattle.world_steps.proofs.Made.{found, runs-at, acts-returns, packet-found, with_world}
 use Rattle.world_steps.proofs.Reached.{now_low}
 use Rattle.world_steps.proofs.cluster.World.takes.Goals as goal
 
