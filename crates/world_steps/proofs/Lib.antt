@@ -1,0 +1,13 @@
+pub mod Logs
+pub mod Spoken
+pub mod Facts
+pub mod Turned
+pub mod Keeping
+pub mod Reached
+pub mod Promised
+pub mod Lists
+pub mod Noting
+pub mod First
+pub mod Events
+pub mod Made
+pub mod Rows

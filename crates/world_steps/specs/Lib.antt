@@ -1,0 +1,4 @@
+pub mod Fit
+pub mod Members
+pub mod Steps
+pub mod Promises
