@@ -1,4 +1,7 @@
 // What is committed, and what is overwritten.
+ghost use Rattle.std.specs.Prelude.{IfOk, OnOk};
+ghost use Rattle.world_steps.specs.Steps.{IsReached};
+
 use super::*;
 use cl_base::Entry;
 use entry_log::LogIndex;
