@@ -1,6 +1,7 @@
 pub mod Ahead
 pub mod Batches
 pub mod Commits
+pub mod Consuming
 pub mod Disking
 pub mod Due
 pub mod Entries

@@ -4,6 +4,7 @@ pub mod Taken
 pub mod Disks
 pub mod Delivered
 pub mod Phases
+pub mod Consumed
 pub mod Starts
 pub mod Sound
 pub mod Accepted

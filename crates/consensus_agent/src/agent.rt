@@ -106,14 +106,6 @@ impl<D: Disk> Agent<D> {
         self.services.containers().len()
     }
 
-    /// The entries that a service consumed since the mount, in order. No phase runs.
-    pub fn inputs(&self, service: u8) -> &[Entry] {
-        match self.services.containers().get(service as usize) {
-            Some(container) => container.inputs(),
-            None => &[],
-        }
-    }
-
     /// What its disk keeps.
     pub fn durable(&self) -> &Durable
         ensures { result.now ≡ self.now.disk.kept }

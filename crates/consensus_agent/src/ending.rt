@@ -1,10 +1,18 @@
 // What a member does at a phase's end.
-ghost use Rattle.std.specs.Prelude.{◌≡◌, ◌+◌, ◌-◌, false, IsTrue, OnOk};
+ghost use Rattle.std.specs.Prelude.{◌≡◌, ◌+◌, ◌-◌, ◌<◌, ◌^◌, ◌++◌, false, Some, IsTrue, IfOk, OnOk, slice_get, take, drop, map};
+ghost use Rattle.sbe_events.specs.declared.event.Event.{Event as EventOf};
+ghost use Rattle.sbe_events.specs.Spelling.{term_of};
+ghost use Rattle.module_state.specs.Module.{module_part};
+ghost use Rattle.module_state.specs.Part.{after_asks};
+ghost use Rattle.module_state.specs.Services.{asks_among};
+ghost use Rattle.owed_egress.specs.Records.{output_in, sends_of, sent_of};
+ghost use Rattle.owed_egress.specs.Taken.{asks_at, module_over, module_with, sent_by_services, sent_over, sent_with};
 ghost use Rattle.consensus_agent.specs.Rows.{IsKept};
+ghost use Rattle.consensus_agent.specs.Consumed.{HasConsumed, HaveRising, IsTaking, asked_by, outboxes};
 
 use crate::agent::Agent;
 use crate::fault::AgentFault;
-use crate::snapshots::Action;
+use crate::snapshots::{Action, put_all};
 use cl_base::{Disk, List, NoMemory};
 use egress::Sent;
 use member_module::MemberModule;
@@ -13,53 +21,71 @@ use owed_egress::{Owing, outputs_at};
 use service_api::Output;
 use service_container::Container;
 
-/// The module takes what a service asks at an entry.
+/// The module takes an output of a service: what it asks, if it asks something.
+#[tactic(auto, using(crate::proofs::Consuming::applied, crate::proofs::Consuming::unchanged))]
+fn ask_one(module: &mut MemberModule, service: u8, output: &Output) -> Result<(), NoMemory>
+    ensures stays { OnOk result (IsTaking module.old module.new) }
+    ensures state { OnOk result (module.new.state ≡ asked_by module.old.state service output.now) }
+{
+    match output {
+        Output::Command(command) => module.ask(service, command),
+        Output::Egress { .. } => Ok(()),
+    }
+}
+
+/// The module takes what a service asks by its outputs at an entry, in order.
+#[tactic(auto, using(crate::proofs::Consuming::asked_first, crate::proofs::Consuming::taking_on, crate::proofs::Consuming::unchanged))]
 fn ask_all(
     module: &mut MemberModule,
     service: u8,
     outputs: &[(u64, Output)],
 ) -> Result<(), NoMemory>
-    ensures consumed { module.new.consumed ≡ module.old.consumed }
-    ensures ahead { module.new.ahead ≡ module.old.ahead }
+    ensures stays { OnOk result (IsTaking module.old module.new) }
+    ensures state { OnOk result (module.new.state ≡ after_asks module_part module.old.state (asks_among service (map output_in outputs.now))) }
 {
-    for output in outputs {
-        match &output.1 {
-            Output::Command(command) => module.ask(service, command)?,
-            Output::Egress { .. } => {}
-        }
-    }
-    Ok(())
+    let Some((first, rest)) = outputs.split_first() else {
+        return Ok(());
+    };
+    ask_one(module, service, &first.1)?;
+    ask_all(module, service, rest)
 }
 
 /// The module takes what the services ask at an entry, by rising service.
+#[tactic(auto, using(crate::proofs::Consuming::services_asked, crate::proofs::Consuming::taking_on, crate::proofs::Consuming::unchanged))]
 fn ask_services(
     module: &mut MemberModule,
     index: u64,
     containers: &[Container],
 ) -> Result<(), NoMemory>
-    ensures consumed { module.new.consumed ≡ module.old.consumed }
-    ensures ahead { module.new.ahead ≡ module.old.ahead }
+    ensures stays { OnOk result (IsTaking module.old module.new) }
+    ensures state { HaveRising containers.now → OnOk result (module.new.state ≡ after_asks module_part module.old.state (asks_at index (outboxes containers.now))) }
 {
-    for container in containers {
-        let outputs = outputs_at(container.outbox(), index);
-        ask_all(module, container.service(), outputs)?;
-    }
-    Ok(())
+    let Some((container, rest)) = containers.split_first() else {
+        return Ok(());
+    };
+    let outputs = outputs_at(container.outbox(), index);
+    ask_all(module, container.service(), outputs)?;
+    ask_services(module, index, rest)
 }
 
 /// Sends what the services owe at an entry, by rising service.
+#[tactic(auto, using(crate::proofs::Consuming::services_sent))]
 fn send_services(
     owing: &Owing,
     index: u64,
     module: &MemberModule,
     containers: &[Container],
     sent: &mut List<Sent>,
-) -> Result<(), NoMemory> {
-    for container in containers {
-        let outputs = outputs_at(container.outbox(), index);
-        owing.send_service(module.state(), container.service(), outputs, sent)?;
-    }
-    Ok(())
+) -> Result<(), NoMemory>
+    requires { owing.now.index ≡ index }
+    ensures { HaveRising containers.now → OnOk result (sent.new ≡ sent.old ++ sent_by_services owing.now.sends index module.now.state owing.now.event.now (outboxes containers.now)) }
+{
+    let Some((container, rest)) = containers.split_first() else {
+        return Ok(());
+    };
+    let outputs = outputs_at(container.outbox(), index);
+    owing.send_service(module.state(), container.service(), outputs, sent)?;
+    send_services(owing, index, module, rest, sent)
 }
 
 impl<D: Disk> Agent<D> {
@@ -67,9 +93,15 @@ impl<D: Disk> Agent<D> {
     /// and what is owed to clients is given.
     #[tactic(auto, using(crate::proofs::Sounding::taken_sound))]
     pub(crate) fn consume(&mut self) -> Result<List<Sent>, AgentFault>
+        requires { self.old.core.values.rest.commit < 2 ^ 62 }
         ensures consumed { OnOk result (self.new.module.consumed ≡ self.old.module.consumed + (self.old.core.values.rest.commit - self.old.module.consumed)) }
+        ensures ahead { OnOk result (self.new.module.ahead.entries ≡ drop (self.old.core.values.rest.commit - self.old.module.consumed) self.old.module.ahead.entries) }
+        ensures rest { OnOk result (HasConsumed self.old.module self.new.module) }
+        ensures state { HaveRising self.old.services.kept → OnOk result (self.new.module.state ≡ module_over (outboxes self.old.services.kept) self.old.module.consumed self.old.module.state (take (self.old.core.values.rest.commit - self.old.module.consumed) self.old.module.ahead.events)) }
+        ensures owed { HaveRising self.old.services.kept → IfOk result (λ sent. sent ≡ sent_over self.old.role (outboxes self.old.services.kept) self.old.module.consumed self.old.module.state (take (self.old.core.values.rest.commit - self.old.module.consumed) self.old.module.ahead.events)) }
         ensures services { self.new.services ≡ self.old.services }
         ensures core { self.new.core ≡ self.old.core }
+        ensures base { self.new.base ≡ self.old.base }
         ensures whole { OnOk result (IsTrue self.new.is_whole) }
         ensures kept { IsKept self.old.disk.kept.node self.old.disk.kept.log self.new.disk.kept }
     {
@@ -84,13 +116,19 @@ impl<D: Disk> Agent<D> {
         for number in 0..count {
             self.take_entry(number, &mut sent, &mut actions)?;
         }
-        self.put_all(actions)?;
+        put_all(
+            self.alloc,
+            &mut self.disk,
+            self.services.containers(),
+            actions,
+        )?;
         self.module.advance(count)?;
         self.is_whole = true;
         Ok(sent)
     }
 
-    /// The module takes the entry ahead at this number, with what the services ask at it.
+    /// The module takes the entry ahead at this number, where there is one, with what the services ask at it.
+    #[tactic(auto, using(crate::proofs::Consuming::applied, crate::proofs::Consuming::taking_on, crate::proofs::Consuming::unchanged, crate::proofs::Consuming::entry_taken, crate::proofs::Consuming::none_taken, crate::proofs::Consuming::entry_sent, crate::proofs::Consuming::none_sent))]
     fn take_entry(
         &mut self,
         number: u64,
@@ -98,15 +136,22 @@ impl<D: Disk> Agent<D> {
         actions: &mut List<Action>,
     ) -> Result<(), AgentFault>
         requires open { self.old.is_whole ≡ false }
-        ensures consumed { self.new.module.consumed ≡ self.old.module.consumed }
+        requires number { number < 2 ^ 62 }
+        ensures module { OnOk result (IsTaking self.old.module self.new.module) }
+        ensures state { HaveRising self.old.services.kept → OnOk result (self.new.module.state ≡ module_with (outboxes self.old.services.kept) (self.old.module.consumed + number) self.old.module.state (slice_get self.old.module.ahead.events number)) }
+        ensures owed { HaveRising self.old.services.kept → OnOk result (sent.new ≡ sent.old ++ sent_with self.old.role (outboxes self.old.services.kept) (self.old.module.consumed + number) self.old.module.state (slice_get self.old.module.ahead.events number)) }
         ensures services { self.new.services ≡ self.old.services }
         ensures core { self.new.core ≡ self.old.core }
         ensures open { self.new.is_whole ≡ false }
         ensures disk { self.new.disk ≡ self.old.disk }
-        ensures ahead { self.new.module.ahead ≡ self.old.module.ahead }
+        ensures role { self.new.role ≡ self.old.role }
+        ensures base { self.new.base ≡ self.old.base }
     {
         let index = self.module.consumed().saturating_add(number);
         let number = number as usize;
+        let Some(_event) = self.module.event(number) else {
+            return Ok(());
+        };
         let owed = self.module.apply(number)?;
         self.send_entry(index, number, owed, sent)?;
         ask_services(&mut self.module, index, self.services.containers())?;
@@ -117,13 +162,17 @@ impl<D: Disk> Agent<D> {
     }
 
     /// Sends what the entry that was just taken owes.
+    #[tactic(auto, using(crate::proofs::Consuming::entry_owes))]
     fn send_entry(
         &self,
         index: u64,
         number: usize,
         owed: List<ModuleOutput>,
         sent: &mut List<Sent>,
-    ) -> Result<(), NoMemory> {
+    ) -> Result<(), NoMemory>
+        ensures { (e : EventOf) → slice_get self.now.module.ahead.events number ≡ Some e → HaveRising self.now.services.kept
+            → OnOk result (sent.new ≡ sent.old ++ (sent_of (sends_of self.now.role (term_of e)) index None owed ++ sent_by_services (sends_of self.now.role (term_of e)) index self.now.module.state e (outboxes self.now.services.kept))) }
+    {
         let Some(event) = self.module.event(number) else {
             return Ok(());
         };

@@ -1,10 +1,9 @@
 // The snapshots of a phase's actions.
-ghost use Rattle.std.specs.Prelude.{◌≡◌, ◌<◌, ◌^◌, true, false, pos, negsuc, ◌≤ℤ◌, length, All, IsTrue, IfOk, OnOk};
+ghost use Rattle.std.specs.Prelude.{◌≡◌, ◌<◌, ◌^◌, true, pos, negsuc, ◌≤ℤ◌, length, All, IsTrue, IfOk, OnOk};
 ghost use Rattle.snapshot_pieces.specs.Pieces.{IsOrigin};
 ghost use Rattle.member_disk.specs.Changes.{IsHead};
 ghost use Rattle.consensus_agent.specs.Rows.{IsKept};
 
-use crate::agent::Agent;
 use crate::fault::AgentFault;
 use crate::guard::is_number;
 use cl_base::limits::{ACTIONS_LIMIT, SERVICES_LIMIT};
@@ -12,7 +11,9 @@ use cl_base::{Bytes, Disk, List, NoMemory};
 use member_disk::{MemberDisk, SnapshotHead};
 use member_module::MemberModule;
 use sbe_events::Event;
+use service_container::Container;
 use snapshot_pieces::{Origin, module_pieces, service_pieces};
+use std::alloc::Global;
 
 /// The most bytes of a service's records.
 const RECORDS_LIMIT: usize = 2_147_483_647;
@@ -65,94 +66,106 @@ fn recording_of(before: u64, service: i32) -> u64
     4 * before + (service + 1) as u64
 }
 
-impl<D: Disk> Agent<D> {
-    /// Writes the snapshots of each action, in order.
-    pub(crate) fn put_all(&mut self, actions: List<Action>) -> Result<(), AgentFault>
-        requires open { self.old.is_whole ≡ false }
-        requires whole { IsTrue self.old.disk.whole }
-        ensures module { self.new.module ≡ self.old.module }
-        ensures services { self.new.services ≡ self.old.services }
-        ensures core { self.new.core ≡ self.old.core }
-        ensures open { self.new.is_whole ≡ false }
-        ensures kept { IsKept self.old.disk.kept.node self.old.disk.kept.log self.new.disk.kept }
-        ensures whole { OnOk result (IsTrue self.new.disk.whole) }
-    {
-        for action in actions.into_vec() {
-            self.put_one(action)?;
-        }
-        Ok(())
+/// Writes the snapshots of each action, in order.
+pub fn put_all<D: Disk>(
+    alloc: Global,
+    disk: &mut MemberDisk<D>,
+    containers: &[Container],
+    actions: List<Action>,
+) -> Result<(), AgentFault>
+    requires whole { IsTrue disk.old.whole }
+    ensures kept { IsKept disk.old.kept.node disk.old.kept.log disk.new.kept }
+    ensures whole { OnOk result (IsTrue disk.new.whole) }
+{
+    for action in actions.into_vec() {
+        put_services(alloc, disk, containers, &action)?;
+        put_module(alloc, disk, action)?;
     }
+    Ok(())
+}
 
-    /// Writes the snapshots of an action: the services by rising number, and the module.
-    fn put_one(&mut self, action: Action) -> Result<(), AgentFault>
-        requires open { self.old.is_whole ≡ false }
-        requires whole { IsTrue self.old.disk.whole }
-        ensures module { self.new.module ≡ self.old.module }
-        ensures services { self.new.services ≡ self.old.services }
-        ensures core { self.new.core ≡ self.old.core }
-        ensures open { self.new.is_whole ≡ false }
-        ensures kept { IsKept self.old.disk.kept.node self.old.disk.kept.log self.new.disk.kept }
-        ensures whole { OnOk result (IsTrue self.new.disk.whole) }
-    {
-        for service in 0..self.count {
-            if service < SERVICES_LIMIT {
-                self.put_service(&action, service)?;
-            }
-        }
-        let head = self.head_of(&action, -1)?;
-        let Action { records, .. } = action;
-        let pieces = module_pieces(self.alloc, &origin_of(&head), records)?;
-        put(&mut self.disk, head, pieces.as_slice())
-    }
+/// Writes the snapshots of the services at an action, by rising number.
+fn put_services<D: Disk>(
+    alloc: Global,
+    disk: &mut MemberDisk<D>,
+    containers: &[Container],
+    action: &Action,
+) -> Result<(), AgentFault>
+    requires whole { IsTrue disk.old.whole }
+    ensures kept { IsKept disk.old.kept.node disk.old.kept.log disk.new.kept }
+    ensures whole { OnOk result (IsTrue disk.new.whole) }
+{
+    let Some((container, rest)) = containers.split_first() else {
+        return Ok(());
+    };
+    put_service(alloc, disk, container, action)?;
+    put_services(alloc, disk, rest, action)
+}
 
-    /// Writes the snapshot of a service.
-    fn put_service(&mut self, action: &Action, service: u8) -> Result<(), AgentFault>
-        requires service { service < 3 }
-        requires open { self.old.is_whole ≡ false }
-        requires whole { IsTrue self.old.disk.whole }
-        ensures module { self.new.module ≡ self.old.module }
-        ensures services { self.new.services ≡ self.old.services }
-        ensures core { self.new.core ≡ self.old.core }
-        ensures open { self.new.is_whole ≡ false }
-        ensures kept { IsKept self.old.disk.kept.node self.old.disk.kept.log self.new.disk.kept }
-        ensures whole { OnOk result (IsTrue self.new.disk.whole) }
-    {
-        let head = self.head_of(action, service as i32)?;
-        let Some(container) = self.services.containers().get(service as usize) else {
-            return Ok(());
-        };
-        let Some(records) = container.snapshot(action.index) else {
-            return Ok(());
-        };
-        if records.len() > RECORDS_LIMIT {
-            return Err(AgentFault::NoMemory);
-        }
-        let pieces = service_pieces(self.alloc, &origin_of(&head), records)?;
-        put(&mut self.disk, head, pieces.as_slice())
+/// Writes the snapshot of a service at an action.
+fn put_service<D: Disk>(
+    alloc: Global,
+    disk: &mut MemberDisk<D>,
+    container: &Container,
+    action: &Action,
+) -> Result<(), AgentFault>
+    requires whole { IsTrue disk.old.whole }
+    ensures kept { IsKept disk.old.kept.node disk.old.kept.log disk.new.kept }
+    ensures whole { OnOk result (IsTrue disk.new.whole) }
+{
+    let service = container.service();
+    let Some(records) = container.snapshot(action.index) else {
+        return Ok(());
+    };
+    if service >= SERVICES_LIMIT || records.len() > RECORDS_LIMIT {
+        return Err(AgentFault::NoMemory);
     }
+    let head = head_of(disk, action, service as i32)?;
+    let pieces = service_pieces(alloc, &origin_of(&head), records)?;
+    put(disk, head, pieces.as_slice())
+}
 
-    /// The snapshot entry of a service, or of the module (-1), of an action.
-    #[tactic(auto, using(crate::proofs::Views::front_ends))]
-    fn head_of(&self, action: &Action, service: i32) -> Result<SnapshotHead, AgentFault>
-        requires low { negsuc 0 ≤ℤ service }
-        requires high { service ≤ℤ pos 2 }
-        ensures head { IfOk result IsHead }
-        ensures origin { IfOk result (λ h. IsOrigin (record { service = h.service; position = h.position; term = h.term })) }
-    {
-        let entries = action.index.saturating_add(1);
-        let stamps = is_number(&action.term) && is_number(&action.stamp);
-        if action.before >= ACTIONS_LIMIT || entries > self.disk.index().entries() || !stamps {
-            return Err(AgentFault::NoMemory);
-        }
-        let position = self.disk.index().end_at(entries);
-        Ok(SnapshotHead {
-            recording: recording_of(action.before, service),
-            service,
-            term: action.term,
-            position,
-            stamp: action.stamp,
-        })
+/// Writes the snapshot of the module at an action.
+fn put_module<D: Disk>(
+    alloc: Global,
+    disk: &mut MemberDisk<D>,
+    action: Action,
+) -> Result<(), AgentFault>
+    requires whole { IsTrue disk.old.whole }
+    ensures kept { IsKept disk.old.kept.node disk.old.kept.log disk.new.kept }
+    ensures whole { OnOk result (IsTrue disk.new.whole) }
+{
+    let head = head_of(disk, &action, -1)?;
+    let Action { records, .. } = action;
+    let pieces = module_pieces(alloc, &origin_of(&head), records)?;
+    put(disk, head, pieces.as_slice())
+}
+
+/// The snapshot entry of a service, or of the module (-1), of an action.
+#[tactic(auto, using(crate::proofs::Views::front_ends))]
+fn head_of<D: Disk>(
+    disk: &MemberDisk<D>,
+    action: &Action,
+    service: i32,
+) -> Result<SnapshotHead, AgentFault>
+    requires low { negsuc 0 ≤ℤ service }
+    requires high { service ≤ℤ pos 2 }
+    ensures head { IfOk result IsHead }
+    ensures origin { IfOk result (λ h. IsOrigin (record { service = h.service; position = h.position; term = h.term })) }
+{
+    let entries = action.index.saturating_add(1);
+    let stamps = is_number(&action.term) && is_number(&action.stamp);
+    if action.before >= ACTIONS_LIMIT || entries > disk.index().entries() || !stamps {
+        return Err(AgentFault::NoMemory);
     }
+    let position = disk.index().end_at(entries);
+    Ok(SnapshotHead {
+        recording: recording_of(action.before, service),
+        service,
+        term: action.term,
+        position,
+        stamp: action.stamp,
+    })
 }
 
 /// Whether each piece has fewer than 2^32 bytes.

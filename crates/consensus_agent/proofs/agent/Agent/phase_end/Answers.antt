@@ -1,4 +1,8 @@
-use Rattle.std.proofs.Common.{◌≡◌, ap, ◌∙◌, arith}
+use Rattle.std.proofs.Common.{◌≡◌, ◌-◌, List, take, sym, subst, ap, ◌∙◌, arith}
+use Rattle.owed_egress.specs.Taken.{module_over, sent_over}
+use Rattle.service_container.specs.Held.{Held}
+use Rattle.service_phases.specs.Phases.{Lending}
+use Rattle.consensus_agent.specs.Consumed.{HaveRising, outboxes}
 use Rattle.consensus_agent.proofs.Phasing.{came_back, commit_in, idle_at}
 use Rattle.consensus_agent.proofs.agent.Agent.phase_end.Goals as goal
 
@@ -12,3 +16,17 @@ returns-clause-idle g c =
     (ap commit_in c.in_ok-sent.ensures.core)
     c.requires.bound
     all
+
+pub returns-clause-state : goal.returns-clause-state
+returns-clause-state g c rising =
+    let self = c.args.self.now in
+    let kept = ap (λ (l : Lending). l.kept) (came_back _ _ c.args.served c.requires.kept c.end.ensures.kept) in
+    subst (λ (cs : List Held). c.consume.new.self.«module».state ≡ module_over (outboxes cs) self.«module».consumed self.«module».state (take (self.core.values.rest.commit - self.«module».consumed) self.«module».ahead.events)) kept
+    (c.in_ok-sent.ensures.state (subst HaveRising (sym kept) rising))
+
+pub returns-clause-owed : goal.returns-clause-owed
+returns-clause-owed g c rising =
+    let self = c.args.self.now in
+    let kept = ap (λ (l : Lending). l.kept) (came_back _ _ c.args.served c.requires.kept c.end.ensures.kept) in
+    subst (λ (cs : List Held). c.in_ok-sent.sent ≡ sent_over self.role (outboxes cs) self.«module».consumed self.«module».state (take (self.core.values.rest.commit - self.«module».consumed) self.«module».ahead.events)) kept
+    (c.in_ok-sent.ensures.owed (subst HaveRising (sym kept) rising))
