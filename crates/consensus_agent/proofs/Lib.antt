@@ -21,3 +21,4 @@ pub mod Taking
 pub mod There
 pub mod Views
 pub mod Wanted
+pub mod Writing

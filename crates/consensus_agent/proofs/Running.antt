@@ -1,6 +1,6 @@
 -- The row that the core ran is the row over the log, and what was made of it is what it says.
 use Rattle.std.proofs.Common.{◌≡◌, ℕ, ◌≤◌, Bool, true, false, ◌||◌, List, sym, ap, subst, ◌∙◌}
-use Rattle.std.specs.Prelude.{Result, Ok, Err, OnOk}
+use Rattle.std.specs.Prelude.{Result, Ok, Err, OnErr, OnOk}
 use Rattle.sbe_consensus.specs.declared.packet.Outgoing.{Outgoing}
 use Rattle.member_disk.specs.Kept.{Kept, Held as DiskHeld}
 use Rattle.consensus_core.specs.declared.change.Change.{Change}
@@ -60,6 +60,14 @@ on_ok (Err e) f h = tt
 pub on_both : {T E P Q R : Type 0} (r : Result T E) → (P → Q → R) → OnOk r P → OnOk r Q → OnOk r R
 on_both (Ok x) f h g = f h g
 on_both (Err e) f h g = tt
+
+pub err_out : {T E P : Type 0} (r : Result T E) (e : E) → r ≡ Err e → OnErr r P → P
+err_out (Ok y) e is h = absurd (cc)
+err_out (Err y) e is h = h
+
+pub on_err : {T E P : Type 0} (r : Result T E) → P → OnErr r P
+on_err (Ok y) p = tt
+on_err (Err y) p = p
 
 pub ok_out : {T E P : Type 0} (r : Result T E) (x : T) → r ≡ Ok x → OnOk r P → P
 ok_out (Ok y) x is h = h

@@ -59,7 +59,7 @@ same_either a b =
 some_of : (x y : RecEntry) → Some x ≡ Some y → x ≡ y
 some_of x y h = cc
 
-there_either : (x : RecEntry) (xs : List RecEntry) → Either (IsThere x xs)
+pub there_either : (x : RecEntry) (xs : List RecEntry) → Either (IsThere x xs)
 there_either x [] = inr (λ h. none h.0 h.1)
   where
     none : (i : ℕ) → slice_get [] i ≡ Some x → ⊥

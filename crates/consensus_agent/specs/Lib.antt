@@ -5,6 +5,7 @@ pub mod Disks
 pub mod Delivered
 pub mod Phases
 pub mod Consumed
+pub mod Written
 pub mod Starts
 pub mod Sound
 pub mod Accepted

@@ -1,5 +1,5 @@
 // What a member does at a phase's end.
-ghost use Rattle.std.specs.Prelude.{◌≡◌, ◌+◌, ◌-◌, ◌<◌, ◌^◌, ◌++◌, false, Some, IsTrue, IfOk, OnOk, slice_get, take, drop, map};
+ghost use Rattle.std.specs.Prelude.{◌≡◌, ◌+◌, ◌-◌, ◌<◌, ◌^◌, ◌++◌, false, Some, IsTrue, IfOk, OnErr, OnOk, slice_get, take, drop, map};
 ghost use Rattle.sbe_events.specs.declared.event.Event.{Event as EventOf};
 ghost use Rattle.sbe_events.specs.Spelling.{term_of};
 ghost use Rattle.module_state.specs.Module.{module_part};
@@ -7,17 +7,21 @@ ghost use Rattle.module_state.specs.Part.{after_asks};
 ghost use Rattle.module_state.specs.Services.{asks_among};
 ghost use Rattle.owed_egress.specs.Records.{output_in, sends_of, sent_of};
 ghost use Rattle.owed_egress.specs.Taken.{asks_at, module_over, module_with, sent_by_services, sent_over, sent_with};
+ghost use Rattle.entry_log.specs.Shape.{shape_of};
 ghost use Rattle.consensus_agent.specs.Rows.{IsKept};
+ghost use Rattle.consensus_agent.specs.Written.{AreWritten, StoppedAmong, action_with, phase_snapshots};
 ghost use Rattle.consensus_agent.specs.Consumed.{HasConsumed, HaveRising, IsTaking, asked_by, outboxes};
 
 use crate::agent::Agent;
 use crate::fault::AgentFault;
+use crate::guard::is_number;
 use crate::snapshots::{Action, put_all};
 use cl_base::{Disk, List, NoMemory};
 use egress::Sent;
 use member_module::MemberModule;
 use module_state::ModuleOutput;
 use owed_egress::{Owing, outputs_at};
+use sbe_events::Event;
 use service_api::Output;
 use service_container::Container;
 
@@ -91,7 +95,7 @@ fn send_services(
 impl<D: Disk> Agent<D> {
     /// The module takes the entries that the services consumed, the snapshots of the actions among them are written,
     /// and what is owed to clients is given.
-    #[tactic(auto, using(crate::proofs::Sounding::taken_sound))]
+    #[tactic(auto, using(crate::proofs::Sounding::taken_sound, crate::proofs::Writing::stopped_all, crate::proofs::Writing::stopped_none))]
     pub(crate) fn consume(&mut self) -> Result<List<Sent>, AgentFault>
         requires { self.old.core.values.rest.commit < 2 ^ 62 }
         ensures consumed { OnOk result (self.new.module.consumed ≡ self.old.module.consumed + (self.old.core.values.rest.commit - self.old.module.consumed)) }
@@ -99,6 +103,8 @@ impl<D: Disk> Agent<D> {
         ensures rest { OnOk result (HasConsumed self.old.module self.new.module) }
         ensures state { HaveRising self.old.services.kept → OnOk result (self.new.module.state ≡ module_over (outboxes self.old.services.kept) self.old.module.consumed self.old.module.state (take (self.old.core.values.rest.commit - self.old.module.consumed) self.old.module.ahead.events)) }
         ensures owed { HaveRising self.old.services.kept → IfOk result (λ sent. sent ≡ sent_over self.old.role (outboxes self.old.services.kept) self.old.module.consumed self.old.module.state (take (self.old.core.values.rest.commit - self.old.module.consumed) self.old.module.ahead.events)) }
+        ensures written { HaveRising self.old.services.kept → OnOk result (AreWritten D.state D.tells D.is_honest (phase_snapshots self.old.services.kept self.old.disk.kept.log self.old.module (self.old.core.values.rest.commit - self.old.module.consumed)) self.old.disk self.new.disk) }
+        ensures stopped { HaveRising self.old.services.kept → OnErr result (StoppedAmong D.state D.tells D.is_honest (phase_snapshots self.old.services.kept self.old.disk.kept.log self.old.module (self.old.core.values.rest.commit - self.old.module.consumed)) self.old.disk self.new.disk) }
         ensures services { self.new.services ≡ self.old.services }
         ensures core { self.new.core ≡ self.old.core }
         ensures base { self.new.base ≡ self.old.base }
@@ -120,7 +126,7 @@ impl<D: Disk> Agent<D> {
             self.alloc,
             &mut self.disk,
             self.services.containers(),
-            actions,
+            actions.as_slice(),
         )?;
         self.module.advance(count)?;
         self.is_whole = true;
@@ -140,6 +146,7 @@ impl<D: Disk> Agent<D> {
         ensures module { OnOk result (IsTaking self.old.module self.new.module) }
         ensures state { HaveRising self.old.services.kept → OnOk result (self.new.module.state ≡ module_with (outboxes self.old.services.kept) (self.old.module.consumed + number) self.old.module.state (slice_get self.old.module.ahead.events number)) }
         ensures owed { HaveRising self.old.services.kept → OnOk result (sent.new ≡ sent.old ++ sent_with self.old.role (outboxes self.old.services.kept) (self.old.module.consumed + number) self.old.module.state (slice_get self.old.module.ahead.events number)) }
+        ensures actions { HaveRising self.old.services.kept → OnOk result (actions.new ≡ actions.old ++ action_with (shape_of self.old.disk.kept.log) (self.old.module.consumed + number) (slice_get self.old.module.ahead.events number) (module_with (outboxes self.old.services.kept) (self.old.module.consumed + number) self.old.module.state (slice_get self.old.module.ahead.events number))) }
         ensures services { self.new.services ≡ self.old.services }
         ensures core { self.new.core ≡ self.old.core }
         ensures open { self.new.is_whole ≡ false }
@@ -155,10 +162,31 @@ impl<D: Disk> Agent<D> {
         let owed = self.module.apply(number)?;
         self.send_entry(index, number, owed, sent)?;
         ask_services(&mut self.module, index, self.services.containers())?;
-        if let Some(action) = Action::at(&self.module, index, number)? {
-            actions.push(action)?;
-        }
+        self.note_action(index, number, actions)?;
         Ok(())
+    }
+
+    /// The entry that was just taken, where it is a snapshot action, is added to the actions.
+    #[tactic(auto, using(crate::proofs::Views::front_ends))]
+    fn note_action(
+        &self,
+        index: u64,
+        number: usize,
+        actions: &mut List<Action>,
+    ) -> Result<(), NoMemory>
+        requires { index < 2 ^ 63 }
+        ensures { OnOk result (actions.new ≡ actions.old ++ action_with (shape_of self.now.disk.kept.log) index (slice_get self.now.module.ahead.events number) self.now.module.state) }
+    {
+        let Some(Event::Snapshot { term, stamp, .. }) = self.module.event(number) else {
+            return Ok(());
+        };
+        let entries = index + 1;
+        if entries > self.disk.index().entries() || !is_number(term) || !is_number(stamp) {
+            return Err(NoMemory);
+        }
+        let position = self.disk.index().end_at(entries);
+        let action = Action::of(self.alloc, &self.module, index, position, (*term, *stamp))?;
+        actions.push(action)
     }
 
     /// Sends what the entry that was just taken owes.

@@ -9,6 +9,7 @@ ghost use Rattle.service_phases.specs.Phases.{Began, Closed, HasAll, HasEndedWel
 ghost use Rattle.service_phases.specs.Stages.{Begins, HasRun, IsFeeding, IsIdle, forgot};
 ghost use Rattle.consensus_agent.specs.Phases.{stage};
 ghost use Rattle.consensus_agent.specs.Rows.{IsKept};
+ghost use Rattle.consensus_agent.specs.Written.{AreWritten, StoppedAmong, phase_snapshots};
 ghost use Rattle.consensus_agent.specs.Consumed.{HasConsumed, HaveRising, inputs_of, outboxes, role_in};
 
 use crate::agent::Agent;
@@ -191,6 +192,9 @@ impl<D: Disk> Agent<D> {
         ensures rest { OnOk result (HasConsumed self.old.module self.new.module) }
         // What they owe is given, one entry after the other.
         ensures owed { HaveRising (containers served) → IfOk result (λ sent. sent ≡ sent_over self.old.role (outboxes (containers served)) self.old.module.consumed self.old.module.state (take (self.old.core.values.rest.commit - self.old.module.consumed) self.old.module.ahead.events)) }
+        // Of each action among these entries the services' snapshots are written, and then the module's.
+        ensures written { HaveRising (containers served) → OnOk result (AreWritten D.state D.tells D.is_honest (phase_snapshots (containers served) self.old.disk.kept.log self.old.module (self.old.core.values.rest.commit - self.old.module.consumed)) self.old.disk self.new.disk) }
+        ensures stopped { HaveRising (containers served) → OnErr result (StoppedAmong D.state D.tells D.is_honest (phase_snapshots (containers served) self.old.disk.kept.log self.old.module (self.old.core.values.rest.commit - self.old.module.consumed)) self.old.disk self.new.disk) }
         ensures core { self.new.core ≡ self.old.core }
         ensures base { self.new.base ≡ self.old.base }
         ensures whole { OnOk result (IsTrue self.new.is_whole) }

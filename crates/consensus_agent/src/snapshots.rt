@@ -1,16 +1,17 @@
 // The snapshots of a phase's actions.
-ghost use Rattle.std.specs.Prelude.{◌≡◌, ◌<◌, ◌^◌, true, pos, negsuc, ◌≤ℤ◌, length, All, IsTrue, IfOk, OnOk};
+ghost use Rattle.std.specs.Prelude.{◌≡◌, ◌<◌, ◌≤◌, ◌^◌, ◌++◌, true, pos, negsuc, ◌≤ℤ◌, [], ◌∷◌, length, All, IsTrue, IfOk, OnErr, OnOk};
 ghost use Rattle.snapshot_pieces.specs.Pieces.{IsOrigin};
 ghost use Rattle.member_disk.specs.Changes.{IsHead};
+ghost use Rattle.service_container.specs.Records.{found_at};
 ghost use Rattle.consensus_agent.specs.Rows.{IsKept};
+ghost use Rattle.consensus_agent.specs.Written.{AreWritten, StoppedAmong, action_at, head_at, module_snapshot, origin_at, seat_of, service_snapshots, snapshot_with, snapshots_of};
 
 use crate::fault::AgentFault;
 use crate::guard::is_number;
-use cl_base::limits::{ACTIONS_LIMIT, SERVICES_LIMIT};
+use cl_base::limits::{ACTIONS_LIMIT, NUMBER_LIMIT, SERVICES_LIMIT};
 use cl_base::{Bytes, Disk, List, NoMemory};
 use member_disk::{MemberDisk, SnapshotHead};
 use member_module::MemberModule;
-use sbe_events::Event;
 use service_container::Container;
 use snapshot_pieces::{Origin, module_pieces, service_pieces};
 use std::alloc::Global;
@@ -31,60 +32,117 @@ pub struct Action {
     term: i64,
     /// In ms.
     stamp: i64,
-    /// The module's records after its entry.
-    records: List<Bytes>,
+    /// Where its entry ends.
+    position: u64,
+    /// The pieces of the module's snapshot.
+    pieces: List<Bytes>,
+}
+
+/// The place of a service's snapshot among those of an action, the module's (-1) being 0.
+fn seat_of(service: i32) -> u64
+    requires low { negsuc 0 ≤ℤ service }
+    requires high { service ≤ℤ pos 2 }
+    ensures seat { result ≡ seat_of service }
+    ensures bound { result < 4 }
+{
+    (service + 1) as u64
 }
 
 impl Action {
-    /// The action that was just applied, where the entry ahead at this number, with this index, is one.
-    pub fn at(
+    /// The action that was just applied, with this index, place, term and stamp (ms).
+    pub fn of(
+        alloc: Global,
         module: &MemberModule,
         index: u64,
-        number: usize,
-    ) -> Result<Option<Action>, NoMemory> {
-        let Some(Event::Snapshot { term, stamp, .. }) = module.event(number) else {
-            return Ok(None);
+        position: u64,
+        event: (i64, i64),
+    ) -> Result<Action, NoMemory>
+        requires position { position ≤ 2 ^ 62 }
+        requires low { pos 0 ≤ℤ event.0 }
+        requires high { event.0 ≤ℤ pos (2 ^ 62) }
+        ensures { IfOk result (λ a. a ≡ action_at index position event.0 event.1 module.now.state) }
+    {
+        let (term, stamp) = event;
+        let origin = Origin {
+            service: -1,
+            position,
+            term,
         };
-        Ok(Some(Action {
+        let records = module.state().records()?;
+        Ok(Action {
             before: module.state().actions().saturating_sub(1),
             index,
-            term: *term,
-            stamp: *stamp,
-            records: module.state().records()?,
-        }))
+            term,
+            stamp,
+            position,
+            pieces: module_pieces(alloc, &origin, records)?,
+        })
+    }
+
+    /// The snapshot entry of a service, or of the module (-1).
+    fn head(&self, service: i32) -> Result<SnapshotHead, AgentFault>
+        requires low { negsuc 0 ≤ℤ service }
+        requires high { service ≤ℤ pos 2 }
+        ensures head { IfOk result IsHead }
+        ensures origin { IfOk result (λ h. IsOrigin (origin_at self.now service)) }
+        ensures exact { IfOk result (λ h. h ≡ head_at self.now service) }
+    {
+        let stamps = is_number(&self.term) && self.position <= NUMBER_LIMIT;
+        if self.before >= ACTIONS_LIMIT || !stamps {
+            return Err(AgentFault::NoMemory);
+        }
+        Ok(SnapshotHead {
+            recording: 4 * self.before + seat_of(service),
+            service,
+            term: self.term,
+            position: self.position,
+            stamp: self.stamp,
+        })
     }
 }
 
-/// The recording id of the snapshot of a service, or of the module (-1), of the action with so many before it, fewer
-/// than 256.
-fn recording_of(before: u64, service: i32) -> u64
-    requires before { before < 256 }
-    requires low { negsuc 0 ≤ℤ service }
-    requires high { service ≤ℤ pos 2 }
-    ensures { result < 1024 }
-{
-    4 * before + (service + 1) as u64
-}
-
-/// Writes the snapshots of each action, in order.
+/// Writes the snapshots of actions, in order.
+#[tactic(auto, using(crate::proofs::Writing::written_none, crate::proofs::Writing::written_more, crate::proofs::Writing::stopped_none, crate::proofs::Writing::stopped_first, crate::proofs::Writing::stopped_later))]
 pub fn put_all<D: Disk>(
     alloc: Global,
     disk: &mut MemberDisk<D>,
     containers: &[Container],
-    actions: List<Action>,
+    actions: &[Action],
 ) -> Result<(), AgentFault>
     requires whole { IsTrue disk.old.whole }
     ensures kept { IsKept disk.old.kept.node disk.old.kept.log disk.new.kept }
     ensures whole { OnOk result (IsTrue disk.new.whole) }
+    ensures written { OnOk result (AreWritten D.state D.tells D.is_honest (snapshots_of containers.now actions.now) disk.old disk.new) }
+    ensures stopped { OnErr result (StoppedAmong D.state D.tells D.is_honest (snapshots_of containers.now actions.now) disk.old disk.new) }
 {
-    for action in actions.into_vec() {
-        put_services(alloc, disk, containers, &action)?;
-        put_module(alloc, disk, action)?;
-    }
-    Ok(())
+    let Some((action, rest)) = actions.split_first() else {
+        return Ok(());
+    };
+    put_action(alloc, disk, containers, action)?;
+    put_all(alloc, disk, containers, rest)
+}
+
+/// Writes the snapshots of an action: those of the services, by rising number, and the module's.
+#[tactic(auto, using(crate::proofs::Writing::written_none, crate::proofs::Writing::written_more, crate::proofs::Writing::stopped_first, crate::proofs::Writing::stopped_later))]
+fn put_action<D: Disk>(
+    alloc: Global,
+    disk: &mut MemberDisk<D>,
+    containers: &[Container],
+    action: &Action,
+) -> Result<(), AgentFault>
+    requires whole { IsTrue disk.old.whole }
+    ensures kept { IsKept disk.old.kept.node disk.old.kept.log disk.new.kept }
+    ensures whole { OnOk result (IsTrue disk.new.whole) }
+    ensures written { OnOk result (AreWritten D.state D.tells D.is_honest (service_snapshots action.now containers.now ++ module_snapshot action.now ∷ []) disk.old disk.new) }
+    ensures stopped { OnErr result (StoppedAmong D.state D.tells D.is_honest (service_snapshots action.now containers.now ++ module_snapshot action.now ∷ []) disk.old disk.new) }
+{
+    put_services(alloc, disk, containers, action)?;
+    let head = action.head(-1)?;
+    put(disk, head, action.pieces.as_slice())
 }
 
 /// Writes the snapshots of the services at an action, by rising number.
+#[tactic(auto, using(crate::proofs::Writing::written_none, crate::proofs::Writing::written_more, crate::proofs::Writing::stopped_first, crate::proofs::Writing::stopped_later))]
 fn put_services<D: Disk>(
     alloc: Global,
     disk: &mut MemberDisk<D>,
@@ -94,6 +152,8 @@ fn put_services<D: Disk>(
     requires whole { IsTrue disk.old.whole }
     ensures kept { IsKept disk.old.kept.node disk.old.kept.log disk.new.kept }
     ensures whole { OnOk result (IsTrue disk.new.whole) }
+    ensures written { OnOk result (AreWritten D.state D.tells D.is_honest (service_snapshots action.now containers.now) disk.old disk.new) }
+    ensures stopped { OnErr result (StoppedAmong D.state D.tells D.is_honest (service_snapshots action.now containers.now) disk.old disk.new) }
 {
     let Some((container, rest)) = containers.split_first() else {
         return Ok(());
@@ -102,7 +162,8 @@ fn put_services<D: Disk>(
     put_services(alloc, disk, rest, action)
 }
 
-/// Writes the snapshot of a service at an action.
+/// Writes the snapshot of a service at an action, where it left records at it.
+#[tactic(auto, using(crate::proofs::Writing::written_none, crate::proofs::Writing::stopped_none))]
 fn put_service<D: Disk>(
     alloc: Global,
     disk: &mut MemberDisk<D>,
@@ -112,6 +173,8 @@ fn put_service<D: Disk>(
     requires whole { IsTrue disk.old.whole }
     ensures kept { IsKept disk.old.kept.node disk.old.kept.log disk.new.kept }
     ensures whole { OnOk result (IsTrue disk.new.whole) }
+    ensures written { OnOk result (AreWritten D.state D.tells D.is_honest (snapshot_with action.now container.now.service (found_at action.now.index container.now.records)) disk.old disk.new) }
+    ensures stopped { OnErr result (StoppedAmong D.state D.tells D.is_honest (snapshot_with action.now container.now.service (found_at action.now.index container.now.records)) disk.old disk.new) }
 {
     let service = container.service();
     let Some(records) = container.snapshot(action.index) else {
@@ -120,52 +183,9 @@ fn put_service<D: Disk>(
     if service >= SERVICES_LIMIT || records.len() > RECORDS_LIMIT {
         return Err(AgentFault::NoMemory);
     }
-    let head = head_of(disk, action, service as i32)?;
+    let head = action.head(service as i32)?;
     let pieces = service_pieces(alloc, &origin_of(&head), records)?;
     put(disk, head, pieces.as_slice())
-}
-
-/// Writes the snapshot of the module at an action.
-fn put_module<D: Disk>(
-    alloc: Global,
-    disk: &mut MemberDisk<D>,
-    action: Action,
-) -> Result<(), AgentFault>
-    requires whole { IsTrue disk.old.whole }
-    ensures kept { IsKept disk.old.kept.node disk.old.kept.log disk.new.kept }
-    ensures whole { OnOk result (IsTrue disk.new.whole) }
-{
-    let head = head_of(disk, &action, -1)?;
-    let Action { records, .. } = action;
-    let pieces = module_pieces(alloc, &origin_of(&head), records)?;
-    put(disk, head, pieces.as_slice())
-}
-
-/// The snapshot entry of a service, or of the module (-1), of an action.
-#[tactic(auto, using(crate::proofs::Views::front_ends))]
-fn head_of<D: Disk>(
-    disk: &MemberDisk<D>,
-    action: &Action,
-    service: i32,
-) -> Result<SnapshotHead, AgentFault>
-    requires low { negsuc 0 ≤ℤ service }
-    requires high { service ≤ℤ pos 2 }
-    ensures head { IfOk result IsHead }
-    ensures origin { IfOk result (λ h. IsOrigin (record { service = h.service; position = h.position; term = h.term })) }
-{
-    let entries = action.index.saturating_add(1);
-    let stamps = is_number(&action.term) && is_number(&action.stamp);
-    if action.before >= ACTIONS_LIMIT || entries > disk.index().entries() || !stamps {
-        return Err(AgentFault::NoMemory);
-    }
-    let position = disk.index().end_at(entries);
-    Ok(SnapshotHead {
-        recording: recording_of(action.before, service),
-        service,
-        term: action.term,
-        position,
-        stamp: action.stamp,
-    })
 }
 
 /// Whether each piece has fewer than 2^32 bytes.
@@ -179,7 +199,7 @@ fn are_short(pieces: &[Bytes]) -> bool
 }
 
 /// Writes a snapshot.
-#[tactic(auto, using(crate::proofs::There::put_kept))]
+#[tactic(auto, using(crate::proofs::There::put_kept, crate::proofs::Writing::stopped_none))]
 fn put<D: Disk>(
     disk: &mut MemberDisk<D>,
     head: SnapshotHead,
@@ -189,6 +209,8 @@ fn put<D: Disk>(
     requires whole { IsTrue disk.old.whole }
     ensures kept { IsKept disk.old.kept.node disk.old.kept.log disk.new.kept }
     ensures whole { OnOk result (IsTrue disk.new.whole) }
+    ensures written { OnOk result (AreWritten D.state D.tells D.is_honest (record { head = head; pieces = pieces.now } ∷ []) disk.old disk.new) }
+    ensures stopped { OnErr result (StoppedAmong D.state D.tells D.is_honest (record { head = head; pieces = pieces.now } ∷ []) disk.old disk.new) }
 {
     if !are_short(pieces) {
         return Err(AgentFault::NoMemory);
