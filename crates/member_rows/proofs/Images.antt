@@ -14,7 +14,9 @@ use Rattle.member_disk.specs.CutWell.{IsDurable, snapshots_of}
 use Rattle.consensus_core.specs.declared.change.Change.{Change}
 use Rattle.consensus_core.specs.declared.change.Change.TheVariants as changes
 use Rattle.consensus_core.specs.Member.{changed, changed_log}
-use Rattle.member_rows.proofs.Temp.{Each2, IsStored, IsStateOf, IsMountable, changed_kept}
+use Rattle.service_phases.specs.Pairs.{Each2}
+use Rattle.run_orders.specs.Kept.{IsStored, IsStateOf, IsMountable}
+use Rattle.consensus_agent.specs.Disks.{changed_kept}
 
 -- ---- snapshots whose files stay
 

@@ -17,7 +17,7 @@ use Rattle.consensus_core.specs.declared.change.Change.TheVariants as changes
 use Rattle.consensus_core.specs.declared.values.Values.{Values}
 use Rattle.consensus_core.specs.Member.{changed_log}
 use Rattle.consensus_core.specs.Standing.{CanFollow, CanMake}
-use Rattle.member_rows.proofs.Temp.{ahead_after, events_after}
+use Rattle.consensus_agent.specs.Taken.{ahead_after, events_after}
 
 -- a change that can be made, by which the first so many entries stay
 abbrev pub Keeps : Change → ℕ → Log → Type 0
