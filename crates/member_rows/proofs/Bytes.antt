@@ -4,7 +4,7 @@ use Rattle.wire_prims.specs.Fields.{IsBytes}
 use Rattle.wire_prims.specs.declared.fault.Bad.{Bad}
 use Rattle.sbe_consensus.specs.Spelling.{HasSpelling, first_fault, packet_from, packet_of, spelling_of, value_of}
 use Rattle.sbe_consensus.specs.Templates.{template_of}
-use Rattle.sbe_consensus.specs.Laws.{Sound, sound, packet_there, value_spells}
+use Rattle.sbe_consensus.specs.Laws.{sound, packet_there, value_spells}
 use Rattle.sbe_consensus.specs.declared.packet.Packet.{Packet}
 use Rattle.sbe_consensus.specs.declared.template.Template.{Template}
 

@@ -1,5 +1,5 @@
 -- What is due over a log has a spelling, and a duty's row can be made.
-use Rattle.std.proofs.Common.{◌≡◌, ℕ, ◌+◌, ◌≤◌, ◌^◌, ℤ, pos, ◌≤ℤ◌, Bool, true, false, List, [], ◌∷◌, ◌++◌, length, take, drop, Option, Some, None, refl, sym, ap, ◌∙◌, subst, arith, take-append-drop}
+use Rattle.std.proofs.Common.{◌≡◌, ℕ, ◌≤◌, ◌^◌, ℤ, pos, ◌≤ℤ◌, Bool, true, false, List, [], ◌∷◌, ◌++◌, length, take, drop, refl, sym, ap, ◌∙◌, subst, arith, take-append-drop}
 use Rattle.std.specs.Prelude.{All}
 use Rattle.std.specs.List.{AllByRecursion}
 use Rattle.std.proofs.lemmas.List.Elements.{All-from_recursion, All-nil}
@@ -7,7 +7,7 @@ use Rattle.entry_log.specs.Log.{Log}
 use Rattle.entry_log.specs.Shape.{Shape, shape_of}
 use Rattle.election.specs.declared.member.State.{State}
 use Rattle.election.specs.declared.member.State.TheVariants.{LeaderReady}
-use Rattle.sbe_events.specs.Spelling.{HasSpelling, IsNumber, event_of, term_of}
+use Rattle.sbe_events.specs.Spelling.{HasSpelling, IsNumber, term_of}
 use Rattle.sbe_events.specs.declared.event.Event.{Event}
 use Rattle.sbe_consensus.specs.Spelling.{HasSpelling as IsPacket}
 use Rattle.sbe_consensus.specs.declared.packet.Packet.{Packet}
@@ -15,8 +15,7 @@ use Rattle.service_api.specs.declared.shipped.Kind.{Kind}
 use Rattle.pending_messages.specs.Pending.{PendingTable}
 use Rattle.module_state.specs.Part.{run_events}
 use Rattle.module_state.specs.Dispatch.{pending_part, pending_after}
-use Rattle.module_state.specs.Due.{due}
-use Rattle.module_state.specs.Entries.{events_in, with_event, IsSpellable}
+use Rattle.module_state.specs.Entries.{events_in, IsSpellable}
 use Rattle.module_state.specs.Logs.{due_in}
 use Rattle.module_state.specs.Module.{Module, tentative}
 use Rattle.module_state.specs.Services.{history_of, module_of}

@@ -1,19 +1,18 @@
 -- A running member's commit is no lower than the entries that its services began with.
-use Rattle.std.proofs.Common.{◌≡◌, ℕ, ◌≤◌, Bool, true, false, ◌&&◌, List, [], ◌∷◌, length, None, refl, sym, ap, ◌∙◌, subst, arith}
+use Rattle.std.proofs.Common.{◌≡◌, ℕ, ◌≤◌, true, ◌&&◌, List, [], ◌∷◌, length, None, refl, sym, ap, ◌∙◌, subst, arith}
 use Rattle.std.specs.Prelude.{nat_eq, nat_lt}
 use Rattle.std.proofs.lemmas.Bool.Decides.{nat_tests}
 use Rattle.service_api.specs.declared.shipped.Kind.{Kind}
 use Rattle.consensus_core.specs.Member.{Cut, Member, Run}
-use Rattle.world.specs.World.{World, Step, Starts, Puts, Invalidates, member, step, is_running}
+use Rattle.world.specs.World.{Step, Starts, Puts, Invalidates, member, step, is_running}
 use Rattle.world.proofs.Effects.{if-cases}
 use Rattle.agreement.proofs.Moves.{step-moves}
-use Rattle.service_runs.specs.Hosts.{Rules, Stage, Idle, Taking, Over, Ending, Host, Hosted, Act, Rows, Mounts, Drops, Opens, Feeds, Takes, Closes, Writes, Sends, follow, noted, with_host, is_idle, is_taking, is_row, is_free, is_feeding, feed_of, input, all_reach, writes, sends, act, acts_on, hosted}
+use Rattle.service_runs.specs.Hosts.{Rules, Stage, Idle, Taking, Over, Ending, Host, Hosted, Act, Rows, Mounts, Drops, Opens, Feeds, Takes, Closes, Writes, Sends, noted, with_host, is_idle, is_taking, is_row, is_free, is_feeding, feed_of, input, all_reach, writes, sends, act, acts_on, hosted}
 use Rattle.service_runs.proofs.Acts.{act-held, hosted-held}
 use Rattle.service_runs.proofs.Held.{Held}
 use Rattle.one_log.specs.Led.{led, turns}
 use Rattle.one_log.specs.Ruled.{rules_of}
 use Rattle.one_log.proofs.Turns.{turns-acts}
-use Rattle.agreement.proofs.Runs2.{all-fresh}
 use Rattle.run_world.specs.Lawful.{Lawful}
 use Rattle.run_world.specs.RunWorld.{RunWorld, seat}
 use Rattle.run_world.proofs.Shown.{member-shown}

@@ -1,12 +1,11 @@
 -- A row that a fault cut, and a crash behind it, on both sides.
-use Rattle.std.proofs.Common.{◌≡◌, ◌⊎◌, inl, inr, ℕ, suc, ◌≤◌, ℤ, Bool, true, false, ◌&&◌, List, [], ◌∷◌, ◌++◌, length, map, take, drop, None, refl, sym, ap, ◌∙◌, subst, arith, if◌then◌else◌}
+use Rattle.std.proofs.Common.{◌≡◌, ◌⊎◌, inl, inr, ℕ, suc, ◌≤◌, Bool, true, false, ◌&&◌, List, [], ◌∷◌, ◌++◌, length, map, take, drop, None, refl, sym, ap, ◌∙◌, subst, arith, if◌then◌else◌}
 use Rattle.std.specs.Prelude.{IsTrue, not}
 use Rattle.std.proofs.Math.Seq.{drop-append_seam}
 use Rattle.std.proofs.lemmas.List.{append_assoc, append-nil, length-take-le}
-use Rattle.cl_base.specs.Disk.{FileState, DiskState, CrashLeaves}
+use Rattle.cl_base.specs.Disk.{DiskState, CrashLeaves}
 use Rattle.cl_base.specs.Images.{IsSound}
 use Rattle.cl_base.specs.declared.disk.Choice.{Choice}
-use Rattle.cl_base.specs.declared.entry.Entry.{Entry}
 use Rattle.entry_log.specs.Durable.{Durable}
 use Rattle.entry_log.specs.Log.{Log}
 use Rattle.log_segment.specs.Held.{IsHeld}
@@ -14,15 +13,15 @@ use Rattle.service_api.specs.declared.shipped.Kind.{Kind}
 use Rattle.service_container.specs.Held.{Held as ContainerHeld}
 use Rattle.service_phases.specs.Pairs.{Each2}
 use Rattle.service_phases.specs.Phases.{Lending}
-use Rattle.member_disk.specs.CutWell.{IsDurable, IsDurableOne}
+use Rattle.member_disk.specs.CutWell.{IsDurableOne}
 use Rattle.consensus_core.specs.declared.change.Change.TheVariants as changes
 use Rattle.consensus_core.specs.declared.row.Row.{Row}
-use Rattle.consensus_core.specs.Member.{Cut, Member, Run, Whole, Before, After, after, changed, changed_log, is_ready, stopped}
+use Rattle.consensus_core.specs.Member.{Cut, Run, Before, After, changed, changed_log, is_ready, stopped}
 use Rattle.consensus_agent.specs.Disks.{IsRight, changed_kept}
-use Rattle.run_world.specs.Seat.{Seat, Fate, acted, halted as stops_so}
-use Rattle.run_orders.specs.Stands.{EndedSeen, HaveInputs, HomeSeen, Down, IsDown, IsEnded, IsSeat, IsUp, SeatSeen, UpSeen, containers_of, parts_of}
+use Rattle.run_world.specs.Seat.{Seat, Fate, halted as stops_so}
+use Rattle.run_orders.specs.Stands.{EndedSeen, HaveInputs, IsDown, IsEnded, IsSeat, IsUp, UpSeen, containers_of, parts_of}
 use Rattle.member_rows.specs.Calls.{RowCut}
-use Rattle.member_rows.specs.Places.{IsCut, halted, run_ended, running}
+use Rattle.member_rows.specs.Places.{ActedCut, stopped_seat, run_ended, running_seat}
 use Rattle.member_rows.proofs.Handed.{Ready}
 use Rattle.member_rows.proofs.Images.{IsLeft, durable-left, left-image}
 use Rattle.member_rows.proofs.Logs.{Keeps, held_after, keeps_of}
@@ -63,7 +62,7 @@ each-ended (kind ∷ kinds) base first log number (c ∷ cs) (xs ∷ xss) same w
 -- ---- the member
 
 module _ {D : Type 0} (state : D → DiskState) (is_told is_honest : D → Bool) (kinds : List Kind) (row : Row) (now : ℕ) (u v : UpSeen D) (going : Bool) (s : Seat) (choice : Choice) (ended : List EndedSeen) (disk : D)
-    (is : IsSeat state kinds (running choice ended u going) s) (honest : IsTrue (is_honest u.disk.disk)) (ready : Ready row s.member) (d : RowCut state is_told is_honest row u v)
+    (is : IsSeat state kinds (running_seat choice ended u going) s) (honest : IsTrue (is_honest u.disk.disk)) (ready : Ready row s.member) (d : RowCut state is_told is_honest row u v)
     (sound : (f : ℕ) → IsSound ((state v.disk.disk).files f)) (crash : CrashLeaves choice (state v.disk.disk) (state disk)) where
   up : IsUp state kinds u going s
   up = is.home
@@ -114,7 +113,7 @@ module _ {D : Type 0} (state : D → DiskState) (is_told is_honest : D → Bool)
   abbrev fate : Cut → Fate
   fate cut = record { cut = cut; lets = None; own = (state v.disk.disk).own_faults }
 
-  rests : (e : Durable) (t : Seat) → t.ended ≡ s.ended → t.run ≡ s.run → IsLeft (length kinds) e (state disk).files → IsSeat state kinds (halted ended v going disk) (stops_so (stopped e) (state v.disk.disk).own_faults t)
+  rests : (e : Durable) (t : Seat) → t.ended ≡ s.ended → t.run ≡ s.run → IsLeft (length kinds) e (state disk).files → IsSeat state kinds (stopped_seat ended v going disk) (stops_so (stopped e) (state v.disk.disk).own_faults t)
   rests e t same run l = record {
     home = down e (state v.disk.disk).own_faults t l;
     faults = record { lets = sym crash.lets; left = refl; own = sym crash.own; alive = crash.burnt };
@@ -123,16 +122,16 @@ module _ {D : Type 0} (state : D → DiskState) (is_told is_honest : D → Bool)
         (subst (λ (r : Run). Each2 IsEnded (ended ++ run_ended v going) (parts_of (s.ended ++ r ∷ []))) (sym run) all-ended);
   }
 
-  by-reign : (b : Bool) (e : Durable) → IsLeft (length kinds) e (state disk).files → IsSeat state kinds (halted ended v going disk) (stops_so (stopped e) (state v.disk.disk).own_faults (if b then record s { alive = []; since = now } else s))
+  by-reign : (b : Bool) (e : Durable) → IsLeft (length kinds) e (state disk).files → IsSeat state kinds (stopped_seat ended v going disk) (stops_so (stopped e) (state v.disk.disk).own_faults (if b then record s { alive = []; since = now } else s))
   by-reign true e l = rests e (record s { alive = []; since = now }) refl refl l
   by-reign false e l = rests e s refl refl l
 
   abbrev begins : Bool
   begins = is_ready row.values.election.state && not (is_ready s.member.values.election.state)
 
-  cut-by : IsLeft (length kinds) s.member.durable (state disk).files ⊎ IsLeft (length kinds) (changed row.change s.member.durable) (state disk).files → IsCut state kinds row now s (halted ended v going disk)
+  cut-by : IsLeft (length kinds) s.member.durable (state disk).files ⊎ IsLeft (length kinds) (changed row.change s.member.durable) (state disk).files → ActedCut state kinds row now s (stopped_seat ended v going disk)
   cut-by (inl l) = record { fate = fate Before; cut = inl refl; seat = by-reign begins s.member.durable l }
   cut-by (inr l) = record { fate = fate After; cut = inr refl; seat = by-reign begins (changed row.change s.member.durable) l }
 
-  pub seat-cut : IsCut state kinds row now s (halted ended v going disk)
+  pub seat-cut : ActedCut state kinds row now s (stopped_seat ended v going disk)
   seat-cut = cut-by (left (d.went.each right image (left-image choice (state v.disk.disk) (state disk) crash sound)))

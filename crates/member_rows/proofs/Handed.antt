@@ -1,19 +1,14 @@
 -- A packet and a duty, on both sides.
-use Rattle.std.proofs.Common.{◌≡◌, ℕ, ◌≤◌, ◌^◌, ℤ, Bool, true, List, length, take, drop, Some, refl, sym, ap, ◌∙◌, subst, arith}
-use Rattle.std.specs.Prelude.{IsTrue}
+use Rattle.std.proofs.Common.{◌≡◌, ℕ, ◌≤◌, ◌^◌, Bool, List, length, take, drop, sym, ap, ◌∙◌, subst}
 use Rattle.std.specs.List.{AllByRecursion}
 use Rattle.std.proofs.lemmas.List.{length-map}
 use Rattle.cl_base.specs.Disk.{DiskState}
-use Rattle.cl_base.specs.declared.disk.Choice.{Choice}
 use Rattle.entry_log.specs.Log.{Log}
-use Rattle.entry_log.specs.Shape.{Shape, entry_shape, shape_of}
-use Rattle.wire_prims.specs.Fields.{IsBytes}
+use Rattle.entry_log.specs.Shape.{entry_shape, shape_of}
 use Rattle.sbe_events.specs.declared.event.Event.{Event}
-use Rattle.sbe_consensus.specs.Spelling.{HasSpelling, packet_of}
-use Rattle.sbe_consensus.specs.declared.packet.Outgoing.{Outgoing}
+use Rattle.sbe_consensus.specs.Spelling.{HasSpelling}
 use Rattle.sbe_consensus.specs.declared.packet.Packet.{Packet}
 use Rattle.service_api.specs.declared.shipped.Kind.{Kind}
-use Rattle.member_disk.specs.Kept.{Kept}
 use Rattle.module_state.specs.Entries.{events_in, IsSpellable}
 use Rattle.module_state.specs.Logs.{due_in}
 use Rattle.consensus_core.specs.declared.row.Row.{Row}
@@ -30,15 +25,11 @@ use Rattle.run_world.specs.Lawful.{Lawful}
 use Rattle.run_world.specs.RunWorld.{RunWorld, due_at, seat}
 use Rattle.run_world.specs.Seat.{Seat}
 use Rattle.run_world.proofs.Shown.{member-shown}
-use Rattle.run_orders.specs.Stands.{EndedSeen, IsSeat, IsUp, UpSeen}
+use Rattle.run_orders.specs.Stands.{IsUp, UpSeen}
 use Rattle.run_orders.proofs.Standing.{sees-due}
-use Rattle.member_rows.specs.Calls.{GoesOn, PacketCut, PacketDone, RowCut, RowDone, duty_row, packet_row}
-use Rattle.member_rows.specs.Places.{IsCut, IsDone, halted, running}
-use Rattle.member_rows.proofs.Bytes.{read-spells}
+use Rattle.member_rows.specs.Calls.{GoesOn, duty_row, packet_row}
 use Rattle.member_rows.proofs.Due.{Fitting, duty-fitting, packet-fitting}
-use Rattle.member_rows.proofs.Floors.{first-low}
 use Rattle.member_rows.proofs.Shorter.{IsShorter, duty-shorter, packet-shorter}
-use Rattle.member_rows.proofs.Ups.{seat-done}
 
 -- a row that can be made of the log
 pub record Ready (row : Row) (x : Member) : Type 0 where
@@ -90,6 +81,7 @@ module _ {D : Type 0} (state : D → DiskState) (kinds : List Kind) (u : UpSeen 
     where
       over : Log → Row
       over l = does_duty x.values (shape_of l) (due_in kinds (events_in (take s.applied l)) (events_in (drop s.applied l)) s.alive x.values.election.term now s.since) now
+
       fits : Fitting (row_of_duty x (due_at kinds s now) now) x.values x.durable.log
       fits = subst (λ (l : Log). Fitting (over l) x.values l) (sym up.durable.log)
           (duty-fitting kinds x.values u.disk.kept u.disk.whole u.module_held s.applied s.alive now s.since three early goes (subst (λ (l : Log). AllByRecursion IsSpellable (events_in l)) up.durable.log spells))

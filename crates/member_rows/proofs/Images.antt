@@ -1,11 +1,10 @@
 -- What a crash leaves of a disk that a fault cut.
-use Rattle.std.proofs.Common.{◌≡◌, ◌⊎◌, inl, inr, ℕ, ◌+◌, ◌≤◌, List, [], ◌∷◌, refl, sym, ap, ◌∙◌, subst, arith}
+use Rattle.std.proofs.Common.{◌≡◌, ℕ, ◌+◌, ◌≤◌, List, [], ◌∷◌, refl, sym, ap, ◌∙◌, subst, arith}
 use Rattle.cl_base.specs.Disk.{FileState, DiskState, IsImage, IsImageOf, CrashLeaves, left_by, settled_file}
 use Rattle.cl_base.specs.Images.{IsSound, left_is_image, left_by-settled}
 use Rattle.cl_base.specs.Torn.{settled_image}
 use Rattle.cl_base.specs.declared.disk.Choice.{Choice}
 use Rattle.entry_log.specs.Durable.{Durable, SnapshotEntry}
-use Rattle.entry_log.specs.Log.{Log}
 use Rattle.log_segment.specs.Held.{IsHeld}
 use Rattle.recording_log.specs.declared.entry.RecEntry.{RecEntry}
 use Rattle.node_state.specs.Node.{Node}

@@ -1,11 +1,10 @@
 -- A log through a row's change.
-use Rattle.std.proofs.Common.{◌≡◌, ℕ, zero, suc, ◌+◌, ◌-◌, ◌≤◌, ℤ, ◌≤ℤ◌, List, [], ◌∷◌, ◌++◌, length, take, drop, Option, Some, None, refl, sym, ap, ◌∙◌, subst, arith, length-append}
+use Rattle.std.proofs.Common.{◌≡◌, ℕ, zero, suc, ◌+◌, ◌-◌, ◌≤◌, ℤ, List, [], ◌∷◌, ◌++◌, length, take, drop, Option, Some, None, refl, sym, ap, ◌∙◌, subst, arith, length-append}
 use Rattle.std.specs.Prelude.{All, ⊤, negsuc}
-use Rattle.std.proofs.lemmas.List.{take-append-le, drop-append-le, drop-take, length-map, length-take-le, append-nil}
+use Rattle.std.proofs.lemmas.List.{take-append-le, drop-append-le, drop-take, length-map, length-take-le}
 use Rattle.std.proofs.lemmas.List.Elements.{All-head, All-tail, All-append, All-nil, All-cons}
-use Rattle.cl_base.specs.declared.entry.Entry.{Entry}
-use Rattle.entry_log.specs.Log.{Log, RisesFrom, last, last_from, place, place_from}
-use Rattle.entry_log.specs.Shape.{Shape, TermsRiseFrom, entry_shape, shape_of, end_from, end_of, last_term_of, end_from-shape_of, last_term_from-shape_of}
+use Rattle.entry_log.specs.Log.{Log, RisesFrom, last_from, place}
+use Rattle.entry_log.specs.Shape.{Shape, TermsRiseFrom, entry_shape, shape_of, end_of, last_term_of, end_from-shape_of, last_term_from-shape_of}
 use Rattle.sbe_events.specs.declared.event.Event.{Event}
 use Rattle.sbe_events.specs.Spelling.{event_of}
 use Rattle.sbe_consensus.specs.Spelling.{AreEntries}

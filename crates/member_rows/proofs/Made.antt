@@ -1,5 +1,5 @@
 -- A change that was made, and what is sent after it.
-use Rattle.std.proofs.Common.{◌≡◌, List, map, refl, sym, ap, ◌∙◌, subst}
+use Rattle.std.proofs.Common.{◌≡◌, List, map, sym, ap, ◌∙◌}
 use Rattle.std.specs.Prelude.{Bool, IsTrue}
 use Rattle.cl_base.specs.declared.entry.Entry.{Entry}
 use Rattle.entry_log.specs.Log.{Log}
@@ -9,10 +9,9 @@ use Rattle.sbe_consensus.specs.declared.packet.Outgoing.{Outgoing}
 use Rattle.consensus_core.specs.declared.change.Change.{Change}
 use Rattle.consensus_core.specs.declared.change.Change.TheVariants as changes
 use Rattle.consensus_core.specs.declared.row.Row.{Row}
-use Rattle.consensus_core.specs.Fit.{Held, held_by}
-use Rattle.consensus_core.specs.Member.{Member, Whole, changed_log, entries_in, sent_by, speaks, spelled_packet}
-use Rattle.consensus_core.specs.Sends.{sends_of, spelled}
-use Rattle.consensus_core.specs.Whole.{packets_sent, wanted}
+use Rattle.consensus_core.specs.Fit.{held_by}
+use Rattle.consensus_core.specs.Member.{Member, Whole, changed_log, sent_by, speaks, spelled_packet}
+use Rattle.consensus_core.specs.Whole.{packets_sent}
 use Rattle.consensus_core.proofs.Speech.{same_spelled_law}
 use Rattle.consensus_agent.specs.Disks.{changed_kept}
 use Rattle.consensus_agent.specs.Rows.{IsSpoken, Made}

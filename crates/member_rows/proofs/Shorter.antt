@@ -1,5 +1,5 @@
 -- A row cuts a log only to fewer entries than it has.
-use Rattle.std.proofs.Common.{◌≡◌, ℕ, ◌+◌, ◌<◌, Bool, true, false, List, [], ◌∷◌, None, map, length, refl, arith, ℤ}
+use Rattle.std.proofs.Common.{ℕ, ◌+◌, ◌<◌, List, [], ◌∷◌, None, map, length, arith, ℤ}
 use Rattle.std.specs.Prelude.{⊤, nat_le, nat_lt, int_lt, unsigned_abs, take}
 use Rattle.std.proofs.lemmas.Bool.Decides.{nat_tests}
 use Rattle.cl_base.specs.declared.entry.Entry.{Entry}
@@ -7,7 +7,7 @@ use Rattle.entry_log.specs.Log.{Log, end_after, same_term}
 use Rattle.entry_log.specs.Shape.{Shape, end_of, last_term_of}
 use Rattle.entry_log.specs.declared.name.LogName.{LogName}
 use Rattle.log_replication.specs.Replication.{past}
-use Rattle.election.specs.Rows.{Turn, enter_canvass}
+use Rattle.election.specs.Rows.{enter_canvass}
 use Rattle.election.specs.declared.event.Decision.{Decision}
 use Rattle.election.specs.declared.event.Decision.TheVariants as D
 use Rattle.election.specs.declared.member.Election.{Election}
@@ -24,7 +24,7 @@ use Rattle.consensus_core.specs.declared.plan.Plan.{Plan}
 use Rattle.consensus_core.specs.declared.plan.Plan.TheVariants as plans
 use Rattle.consensus_core.specs.declared.plan.Word.TheVariants as words
 use Rattle.consensus_core.specs.declared.values.Values.{Values}
-use Rattle.consensus_core.specs.Rows.{outcome, only, nothing, change_of, row_of_turn, kept_count, cut_to, is_in, cuts, same_name, name_of_shape, follows, on_answer, is_announcement, on_new_term_at, on_new_term, on_canvass_at, on_report_at, appends, new_entries, on_batch_at, on_commit_at}
+use Rattle.consensus_core.specs.Rows.{outcome, only, nothing, change_of, kept_count, cut_to, is_in, cuts, same_name, name_of_shape, follows, on_answer, is_announcement, on_new_term_at, on_new_term, on_canvass_at, on_report_at, appends, on_batch_at, on_commit_at}
 use Rattle.consensus_core.specs.Reign.{reigning, entry_of, term_event, begins_reign, admitted, end_limit, commit_after, has_quorum, beats_next, reigns, sends_status, duty_at, does_duty}
 use Rattle.consensus_core.specs.Sendable.{is_sendable, receives_row, receives}
 use Rattle.consensus_core.proofs.Fitting.{choice}

@@ -1,28 +1,24 @@
 -- A row that was done, on both sides.
-use Rattle.std.proofs.Common.{◌≡◌, ℕ, zero, suc, ◌+◌, ◌≤◌, ◌<◌, ℤ, Bool, true, false, ◌&&◌, ◌||◌, List, [], ◌∷◌, ◌++◌, length, map, take, drop, Option, Some, None, refl, sym, ap, ◌∙◌, subst, arith, length-append, if◌then◌else◌}
+use Rattle.std.proofs.Common.{◌≡◌, ℕ, suc, ◌≤◌, ℤ, Bool, true, false, ◌&&◌, ◌||◌, List, [], ◌∷◌, ◌++◌, length, take, drop, Option, refl, sym, ap, ◌∙◌, subst, arith, length-append, if◌then◌else◌}
 use Rattle.std.specs.Prelude.{IsTrue, not, nat_lt}
 use Rattle.std.proofs.lemmas.Bool.Decides.{nat_tests}
 use Rattle.std.proofs.lemmas.List.{length-map, length-take-le}
-use Rattle.cl_base.specs.Disk.{FileState, DiskState}
+use Rattle.cl_base.specs.Disk.{DiskState}
 use Rattle.cl_base.specs.declared.disk.Choice.{Choice}
-use Rattle.cl_base.specs.declared.entry.Entry.{Entry}
-use Rattle.entry_log.specs.Durable.{Durable, SnapshotEntry}
+use Rattle.entry_log.specs.Durable.{Durable}
 use Rattle.entry_log.specs.Log.{Log}
 use Rattle.entry_log.specs.Shape.{entry_shape, shape_of}
 use Rattle.commit_counter.specs.declared.role.Role.{Role}
 use Rattle.log_segment.specs.Held.{IsHeld}
 use Rattle.recording_log.specs.declared.entry.RecEntry.{RecEntry}
-use Rattle.sbe_events.specs.declared.event.Event.{Event}
 use Rattle.sbe_consensus.specs.declared.packet.Outgoing.{Outgoing}
 use Rattle.service_api.specs.declared.shipped.Kind.{Kind}
-use Rattle.service_api.specs.declared.shipped.Shipped.{Shipped}
 use Rattle.service_api.specs.Service.{state_of}
 use Rattle.service_container.specs.Held.{Held as ContainerHeld}
 use Rattle.service_container.specs.Records.{records_from}
 use Rattle.service_phases.specs.Pairs.{Each2}
 use Rattle.service_phases.specs.Phases.{Lending}
 use Rattle.service_runs.specs.Hosts.{is_over}
-use Rattle.member_disk.specs.Kept.{Kept, EachStands}
 use Rattle.member_disk.specs.CutWell.{snapshots_of}
 use Rattle.module_state.specs.Entries.{events_in}
 use Rattle.module_state.specs.Services.{module_of}
@@ -30,15 +26,15 @@ use Rattle.consensus_core.specs.declared.change.Change.{Change}
 use Rattle.consensus_core.specs.declared.change.Change.TheVariants as changes
 use Rattle.consensus_core.specs.declared.row.Row.{Row}
 use Rattle.consensus_core.specs.declared.values.Values.{Values}
-use Rattle.consensus_core.specs.Member.{Member, Whole, after, changed, changed_log, is_ready, sent_by, spelled_packet}
-use Rattle.consensus_agent.specs.Disks.{IsRight, changed_kept}
-use Rattle.consensus_agent.specs.Sound.{ends_phase, is_cut}
+use Rattle.consensus_core.specs.Member.{Member, Whole, after, changed, changed_log, is_ready}
+use Rattle.consensus_agent.specs.Disks.{IsRight}
+use Rattle.consensus_agent.specs.Sound.{is_cut}
 use Rattle.consensus_agent.specs.Taken.{ahead_after, events_after}
-use Rattle.run_world.specs.Seat.{Seat, Fate, Phase, Rests, Goes, acted, faults_left, phase_after, went_on}
-use Rattle.run_orders.specs.Kept.{IsStored, IsStateOf, IsMountable, HasFaults}
-use Rattle.run_orders.specs.Stands.{EndedSeen, HasInput, HasModule, HaveInputs, IsEnded, IsPhase, IsSeat, IsUp, SeatSeen, UpSeen, containers_of, parts_of, term_led}
+use Rattle.run_world.specs.Seat.{Seat, Fate, Phase, Goes, phase_after, went_on}
+use Rattle.run_orders.specs.Kept.{IsStored, IsStateOf, IsMountable}
+use Rattle.run_orders.specs.Stands.{EndedSeen, HasInput, HaveInputs, IsPhase, IsSeat, IsUp, UpSeen, containers_of, term_led}
 use Rattle.member_rows.specs.Calls.{RowDone}
-use Rattle.member_rows.specs.Places.{IsDone, running}
+use Rattle.member_rows.specs.Places.{ActedWhole, running_seat}
 use Rattle.member_rows.proofs.Due.{Fitting}
 use Rattle.member_rows.proofs.Images.{all-stored-on, log-changes, state-after}
 use Rattle.member_rows.proofs.Logs.{Keeps, events_same, front_same, held_after, keeps_long, keeps_of, rest_same}
@@ -220,9 +216,9 @@ module _ {D : Type 0} (state : D → DiskState) (is_told is_honest : D → Bool)
     abbrev fate : Fate
     fate = record { cut = Whole; lets = (state v.disk.disk).lets; own = (state v.disk.disk).own_faults }
 
-    module _ (choice : Choice) (ended : List EndedSeen) (is : IsSeat state kinds (running choice ended u going) s) where
+    module _ (choice : Choice) (ended : List EndedSeen) (is : IsSeat state kinds (running_seat choice ended u going) s) where
       seat-went : (alive : List (ℤ × ℕ)) (since : ℕ) → v.module_held.alive ≡ alive → v.module_held.since ≡ since
-          → IsSeat state kinds (running choice ended v going) (record (went_on (after row Whole s.member) fate s) { alive = alive; since = since })
+          → IsSeat state kinds (running_seat choice ended v going) (record (went_on (after row Whole s.member) fate s) { alive = alive; since = since })
       seat-went alive since la ls = record {
         home = up-went fate alive since la ls;
         faults = record { lets = refl; left = is.faults.left; own = refl; alive = (d.done.passed right is.faults.alive).burnt };
@@ -230,11 +226,11 @@ module _ {D : Type 0} (state : D → DiskState) (is_told is_honest : D → Bool)
       }
 
       by-reign : (b : Bool) → v.module_held.alive ≡ (if b then [] else s.alive) → v.module_held.since ≡ (if b then now else s.since)
-          → IsSeat state kinds (running choice ended v going) (went_on (after row Whole s.member) fate (if b then record s { alive = []; since = now } else s))
+          → IsSeat state kinds (running_seat choice ended v going) (went_on (after row Whole s.member) fate (if b then record s { alive = []; since = now } else s))
       by-reign true la ls = seat-went [] now la ls
       by-reign false la ls = seat-went s.alive s.since la ls
 
-      pub seat-done : IsTrue (is_told u.disk.disk) → IsDone state kinds row now s out (running choice ended v going)
+      pub seat-done : IsTrue (is_told u.disk.disk) → ActedWhole state kinds row now s out (running_seat choice ended v going)
       seat-done told = record {
         fate = fate;
         cut = refl;

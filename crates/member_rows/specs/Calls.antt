@@ -22,17 +22,17 @@ packet_row u p now = receives u.core.values (shape_of u.disk.kept.log) p now
 abbrev pub duty_row : {D : Type 0} → UpSeen D → ℕ → Row
 duty_row u now = does_duty u.core.values (shape_of u.disk.kept.log) (due_to u.module_held u.core.values.election.term now) now
 
--- the member goes on: what its type says of it while it is whole
+-- the member goes on: what `Agent`, by its field `sound`, says of itself while it is whole
 abbrev pub GoesOn : {D : Type 0} → UpSeen D → Type 0
 GoesOn u = IsSound u.core.values u.disk.kept u.disk.whole u.module_held
 
--- what no row changes: the services, with how many entries they began, and what the member was as its phase began
+-- what no row changes, whatever the answer: the services, with how many entries they began, and what the member was as its phase began; clauses `services`, `base` and `role`
 pub record SameRest {D : Type 0} (u v : UpSeen D) : Type 0 where
   pub services : v.lending ≡ u.lending
   pub base : v.base ≡ u.base
   pub role : v.role ≡ u.role
 
--- bytes that are called bad changed nothing
+-- bytes that are called bad changed nothing: clause `stays` of `Agent::deliver`
 pub record Unchanged {D : Type 0} (u v : UpSeen D) : Type 0 where
   pub core : v.core ≡ u.core
   pub disk : v.disk ≡ u.disk
@@ -41,7 +41,7 @@ pub record Unchanged {D : Type 0} (u v : UpSeen D) : Type 0 where
   pub rest : SameRest u v
 
 module _ {D : Type 0} (state : D → DiskState) (is_told is_honest : D → Bool) where
-  -- a row was run, its change is on the disk, and these packets go out
+  -- A row was run, its change is on the disk, and these packets go out. `Agent::deliver` and `Agent::duty` say so, where they answer Ok, by their clauses of these names (`ran` is `row`, `is` what the type says by `whole`).
   pub record RowDone (row : Row) (now : ℕ) (u v : UpSeen D) (out : List Outgoing) : Type 0 where
     pub was : GoesOn u
     pub is : GoesOn v
@@ -51,16 +51,16 @@ module _ {D : Type 0} (state : D → DiskState) (is_told is_honest : D → Bool)
     pub taken : RowTaken row u.core.values now u.module_held v.module_held u.over v.over
     pub rest : SameRest u v
 
-  -- a fault cut a row
+  -- a fault cut a row: what they say where they answer Err
   pub record RowCut (row : Row) (u v : UpSeen D) : Type 0 where
     pub was : GoesOn u
     pub went : Went state is_told is_honest row.change u.disk v.disk
     pub rest : SameRest u v
 
-  -- bytes that spell a packet were taken
+  -- `Agent::deliver` took bytes that spell a packet, whichever that is
   abbrev pub PacketDone : List ℕ → ℕ → UpSeen D → UpSeen D → List Outgoing → Type 0
   PacketDone bytes now u v out = (p : Packet) → HasSpelling p → spelling_of p ≡ bytes → RowDone (packet_row u p now) now u v out
 
-  -- and a fault cut the row
+  -- and a fault cut that packet's row
   abbrev pub PacketCut : List ℕ → ℕ → UpSeen D → UpSeen D → Type 0
   PacketCut bytes now u v = (p : Packet) → HasSpelling p → spelling_of p ≡ bytes → RowCut (packet_row u p now) u v

@@ -16,7 +16,7 @@ ghost use Rattle.run_world.specs.RunWorld.{RunWorld, due_at, seat};
 ghost use Rattle.run_world.specs.Seat.{Seat};
 ghost use Rattle.run_orders.specs.Stands.{EndedSeen, IsSeat, UpSeen};
 ghost use Rattle.member_rows.specs.Calls.{PacketCut, PacketDone, RowCut, RowDone, Unchanged, duty_row};
-ghost use Rattle.member_rows.specs.Places.{IsCut, IsDone, halted, running};
+ghost use Rattle.member_rows.specs.Places.{ActedCut, ActedWhole, stopped_seat, running_seat};
 
 use cl_base::Disk;
 
@@ -28,33 +28,33 @@ pub fn a_packet_is_spelled()
 
 /// Where bytes that are called bad changed nothing, a member stands to its seat as before.
 pub fn bad_bytes_change_nothing<D: Disk>()
-    ensures { (kinds : List Kind) (u v : UpSeen D) (going : Bool) (choice : Choice) (ended : List EndedSeen) (s : Seat) → Unchanged u v → IsSeat D.state kinds (running choice ended u going) s → IsSeat D.state kinds (running choice ended v going) s }
+    ensures { (kinds : List Kind) (u v : UpSeen D) (going : Bool) (choice : Choice) (ended : List EndedSeen) (s : Seat) → Unchanged u v → IsSeat D.state kinds (running_seat choice ended u going) s → IsSeat D.state kinds (running_seat choice ended v going) s }
 {}
 
 /// A member that took a packet stands to its seat after the packet's row, and what goes out is what the row sends.
 pub fn a_packet_is_handed<D: Disk>()
-    ensures { (n : ℕ) (kinds : List Kind) (w : RunWorld) (m now : ℕ) (u v : UpSeen D) (going : Bool) (choice : Choice) (ended : List EndedSeen) (bytes : List ℕ) (p : Packet) (out : List Outgoing) → n ≤ 5 → length kinds ≤ 3 → Lawful n kinds w
-        → IsTrue (D.tells u.disk.disk) → IsTrue (D.is_honest u.disk.disk) → IsBytes bytes → packet_of bytes ≡ Some p → IsSeat D.state kinds (running choice ended u going) (seat w m) → PacketDone D.state D.tells D.is_honest bytes now u v out
-        → IsDone D.state kinds (row_of_packet (seat w m).member p now) now (seat w m) out (running choice ended v going) }
+    ensures { (n : ℕ) (kinds : List Kind) (w : RunWorld) (m now : ℕ) (u v : UpSeen D) (going : Bool) (choice : Choice) (ended : List EndedSeen) (bytes : List ℕ) (p : Packet) (out : List Outgoing) → Lawful n kinds w
+        → IsTrue (D.is_honest u.disk.disk) → IsBytes bytes → packet_of bytes ≡ Some p → IsSeat D.state kinds (running_seat choice ended u going) (seat w m) → PacketDone D.state D.tells D.is_honest bytes now u v out
+        → ActedWhole D.state kinds (row_of_packet (seat w m).member p now) now (seat w m) out (running_seat choice ended v going) }
 {}
 
 /// A member that did its duty stands to its seat after the duty's row, with what is due there, and what goes out is what the row sends.
 pub fn a_duty_is_done<D: Disk>()
     ensures { (n : ℕ) (kinds : List Kind) (w : RunWorld) (m now : ℕ) (u v : UpSeen D) (going : Bool) (choice : Choice) (ended : List EndedSeen) (out : List Outgoing) → n ≤ 5 → length kinds ≤ 3 → Lawful n kinds w → now ≤ 2 ^ 60
-        → IsTrue (D.tells u.disk.disk) → IsTrue (D.is_honest u.disk.disk) → IsSeat D.state kinds (running choice ended u going) (seat w m) → RowDone D.state D.tells D.is_honest (duty_row u now) now u v out
-        → IsDone D.state kinds (row_of_duty (seat w m).member (due_at kinds (seat w m) now) now) now (seat w m) out (running choice ended v going) }
+        → IsTrue (D.is_honest u.disk.disk) → IsSeat D.state kinds (running_seat choice ended u going) (seat w m) → RowDone D.state D.tells D.is_honest (duty_row u now) now u v out
+        → ActedWhole D.state kinds (row_of_duty (seat w m).member (due_at kinds (seat w m) now) now) now (seat w m) out (running_seat choice ended v going) }
 {}
 
 /// A member under which a packet's row failed stops: what a crash by its choice leaves of its disk stands to its seat after the row, cut before its change or after it.
 pub fn a_packet_is_cut<D: Disk>()
     ensures { (kinds : List Kind) (s : Seat) (now : ℕ) (u v : UpSeen D) (going : Bool) (choice : Choice) (ended : List EndedSeen) (bytes : List ℕ) (p : Packet) (d : D)
-        → IsTrue (D.is_honest u.disk.disk) → IsBytes bytes → packet_of bytes ≡ Some p → IsSeat D.state kinds (running choice ended u going) s → PacketCut D.state D.tells D.is_honest bytes now u v → CrashLeaves choice (D.state v.disk.disk) (D.state d)
-        → IsCut D.state kinds (row_of_packet s.member p now) now s (halted ended v going d) }
+        → IsTrue (D.is_honest u.disk.disk) → IsBytes bytes → packet_of bytes ≡ Some p → IsSeat D.state kinds (running_seat choice ended u going) s → PacketCut D.state D.tells D.is_honest bytes now u v → CrashLeaves choice (D.state v.disk.disk) (D.state d)
+        → ActedCut D.state kinds (row_of_packet s.member p now) now s (stopped_seat ended v going d) }
 {}
 
 /// A member under which a duty's row failed stops, as under a packet's.
 pub fn a_duty_is_cut<D: Disk>()
     ensures { (n : ℕ) (kinds : List Kind) (w : RunWorld) (m now : ℕ) (u v : UpSeen D) (going : Bool) (choice : Choice) (ended : List EndedSeen) (d : D) → n ≤ 5 → length kinds ≤ 3 → Lawful n kinds w → now ≤ 2 ^ 60
-        → IsTrue (D.is_honest u.disk.disk) → IsSeat D.state kinds (running choice ended u going) (seat w m) → RowCut D.state D.tells D.is_honest (duty_row u now) u v → CrashLeaves choice (D.state v.disk.disk) (D.state d)
-        → IsCut D.state kinds (row_of_duty (seat w m).member (due_at kinds (seat w m) now) now) now (seat w m) (halted ended v going d) }
+        → IsTrue (D.is_honest u.disk.disk) → IsSeat D.state kinds (running_seat choice ended u going) (seat w m) → RowCut D.state D.tells D.is_honest (duty_row u now) u v → CrashLeaves choice (D.state v.disk.disk) (D.state d)
+        → ActedCut D.state kinds (row_of_duty (seat w m).member (due_at kinds (seat w m) now) now) now (seat w m) (stopped_seat ended v going d) }
 {}
