@@ -1,7 +1,7 @@
 //! What clients and operators ask of a member, as acts of the world of a run.
 #![tactic(auto)]
 
-ghost use Rattle.std.specs.Prelude.{◌≡◌, ◌≤◌, ◌<◌, ◌&&◌, ◌++◌, ℕ, Bool, false, IsTrue, List, Option, length};
+ghost use Rattle.std.specs.Prelude.{◌≡◌, ◌≤◌, ◌&&◌, ◌++◌, ℕ, Bool, false, IsTrue, List, Option, length};
 ghost use Rattle.cl_base.specs.Disk.{CrashLeaves};
 ghost use Rattle.cl_base.specs.declared.disk.Choice.{Choice};
 ghost use Rattle.egress.specs.Streams.{StreamSeen, sent_more};
@@ -49,11 +49,11 @@ pub fn an_answer_is_no_record()
 /// A client's message at a member of a lawful world, in no phase that is over, is one act of that world or none.
 pub fn a_client_asks<D: Disk>()
     ensures taken { (n : ℕ) (kinds : List Kind) (w : RunWorld) (m : ℕ) (u v : UpSeen D) (going : Bool) (choice : Choice) (ended : List EndedSeen) (bytes : List ℕ) (o : Outcome) (answer : Option Sent)
-        → n ≤ 5 → length kinds ≤ 3 → Lawful n kinds w → m < length w.seats → (going && u.over) ≡ false
+        → n ≤ 5 → length kinds ≤ 3 → Lawful n kinds w → (going && u.over) ≡ false
         → IsSeat D.state kinds (running u going choice ended) (seat w m) → IsTrue (D.is_honest u.disk.disk) → ClientTaken D.state D.tells D.is_honest bytes w.now o answer u v
         → MakesOne D.state kinds m w (running v going choice ended) }
     ensures failed { (n : ℕ) (kinds : List Kind) (w : RunWorld) (m : ℕ) (u v : UpSeen D) (going : Bool) (choice : Choice) (ended : List EndedSeen) (bytes : List ℕ) (d : D)
-        → n ≤ 5 → length kinds ≤ 3 → Lawful n kinds w → m < length w.seats → (going && u.over) ≡ false
+        → n ≤ 5 → length kinds ≤ 3 → Lawful n kinds w → (going && u.over) ≡ false
         → IsSeat D.state kinds (running u going choice ended) (seat w m) → IsTrue (D.is_honest u.disk.disk) → ClientFailed D.state D.tells D.is_honest bytes w.now u v → CrashLeaves choice (D.state v.disk.disk) (D.state d)
         → MakesOne D.state kinds m w (resting d (ended ++ ended_by v.base (containers_of going v.lending))) }
 {}
@@ -61,11 +61,11 @@ pub fn a_client_asks<D: Disk>()
 /// The same of an action.
 pub fn an_action_asks<D: Disk>()
     ensures taken { (n : ℕ) (kinds : List Kind) (w : RunWorld) (m : ℕ) (u v : UpSeen D) (going : Bool) (choice : Choice) (ended : List EndedSeen) (o : Outcome)
-        → n ≤ 5 → length kinds ≤ 3 → Lawful n kinds w → m < length w.seats → (going && u.over) ≡ false
+        → n ≤ 5 → length kinds ≤ 3 → Lawful n kinds w → (going && u.over) ≡ false
         → IsSeat D.state kinds (running u going choice ended) (seat w m) → IsTrue (D.is_honest u.disk.disk) → ActionTaken D.state D.tells D.is_honest w.now o u v
         → MakesOne D.state kinds m w (running v going choice ended) }
     ensures failed { (n : ℕ) (kinds : List Kind) (w : RunWorld) (m : ℕ) (u v : UpSeen D) (going : Bool) (choice : Choice) (ended : List EndedSeen) (d : D)
-        → n ≤ 5 → length kinds ≤ 3 → Lawful n kinds w → m < length w.seats → (going && u.over) ≡ false
+        → n ≤ 5 → length kinds ≤ 3 → Lawful n kinds w → (going && u.over) ≡ false
         → IsSeat D.state kinds (running u going choice ended) (seat w m) → IsTrue (D.is_honest u.disk.disk) → ActionFailed D.state D.tells D.is_honest w.now u v → CrashLeaves choice (D.state v.disk.disk) (D.state d)
         → MakesOne D.state kinds m w (resting d (ended ++ ended_by v.base (containers_of going v.lending))) }
 {}
