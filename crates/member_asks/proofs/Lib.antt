@@ -9,3 +9,4 @@ pub mod Answered
 pub mod Direct
 pub mod Printing
 pub mod Ordered
+pub mod Between

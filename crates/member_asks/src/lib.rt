@@ -13,6 +13,8 @@ ghost use Rattle.run_world.specs.Lawful.{Lawful};
 ghost use Rattle.run_world.specs.RunWorld.{RunWorld, seat};
 ghost use Rattle.run_world.specs.Seat.{Seat};
 ghost use Rattle.consensus_agent.specs.Accepted.{IsDirect};
+ghost use Rattle.run_orders.specs.Phases.{Beside};
+ghost use Rattle.run_orders.specs.Rounds.{Asked};
 ghost use Rattle.run_orders.specs.Stands.{AreRecords, EndedSeen, IsSeat, UpSeen, containers_of};
 ghost use Rattle.member_asks.specs.Clauses.{ActionFailed, ActionTaken, ClientFailed, ClientTaken};
 ghost use Rattle.member_asks.specs.Made.{Falls, Makes, MakesOne, ended_by, resting, running};
@@ -68,4 +70,9 @@ pub fn an_action_asks<D: Disk>()
         → n ≤ 5 → length kinds ≤ 3 → Lawful n kinds w → (going && u.over) ≡ false
         → IsSeat D.state kinds (running u going choice ended) (seat w m) → IsTrue (D.is_honest u.disk.disk) → ActionFailed D.state D.tells D.is_honest w.now u v → CrashLeaves choice (D.state v.disk.disk) (D.state d)
         → MakesOne D.state kinds m w (resting d (ended ++ ended_by v.base (containers_of going v.lending))) }
+{}
+
+/// What is asked between phases that go on over orders, or of a member without any, is what an order may ask.
+pub fn is_asked_between_phases()
+    ensures { (kinds : List Kind) (free : Bool) (m : ℕ) (w u x v : RunWorld) → Beside kinds free w u → Asked kinds false m u x → Beside kinds free x v → Asked kinds free m w v }
 {}
