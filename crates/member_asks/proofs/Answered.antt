@@ -1,5 +1,5 @@
 -- What `Agent::client` and `Agent::action` say, as what is done in the world.
-use Rattle.std.proofs.Common.{◌≡◌, ℕ, Bool, List, [], ◌∷◌, ◌++◌, Option, refl, sym, ap, ◌∙◌, subst}
+use Rattle.std.proofs.Common.{ℕ, Bool, List, ◌++◌, Option}
 use Rattle.std.specs.Prelude.{IsTrue}
 use Rattle.cl_base.specs.Disk.{DiskState, CrashLeaves}
 use Rattle.cl_base.specs.Images.{IsSound as IsSoundFile}
@@ -7,7 +7,6 @@ use Rattle.cl_base.specs.declared.disk.Choice.{Choice}
 use Rattle.wire_prims.specs.Fields.{IsBytes}
 use Rattle.egress.specs.declared.sent.Sent.{Sent}
 use Rattle.sbe_events.specs.Spelling.{content_of}
-use Rattle.sbe_events.specs.declared.event.Event.{Event}
 use Rattle.service_api.specs.declared.shipped.Kind.{Kind}
 use Rattle.ingress.specs.declared.decision.Decided.{Decided}
 use Rattle.ingress.specs.declared.decision.Decided.TheVariants as decisions

@@ -1,10 +1,9 @@
 -- What a member decided to append is what the world lets be asked of it.
-use Rattle.std.proofs.Common.{◌≡◌, ℕ, ◌<◌, ◌≤◌, ℤ, pos, Bool, true, ◌&&◌, List, [], ◌∷◌, ◌++◌, length, IsSome, sym, ap, ◌∙◌, subst, arith}
-use Rattle.std.specs.Prelude.{nat_le}
+use Rattle.std.proofs.Common.{◌≡◌, ℕ, ◌<◌, ◌≤◌, pos, true, ◌&&◌, List, [], ◌∷◌, ◌++◌, length, IsSome, sym, ap, ◌∙◌, subst}
 use Rattle.std.specs.Ordering.{int_eq}
 use Rattle.std.proofs.lemmas.Bool.{and_from, le-leb}
-use Rattle.entry_log.specs.Log.{Log, end_after, place, place_from}
-use Rattle.entry_log.specs.Shape.{shape_of, end_of, end_from-shape_of}
+use Rattle.entry_log.specs.Log.{Log, end_after, place}
+use Rattle.entry_log.specs.Shape.{end_from-shape_of}
 use Rattle.entry_log.specs.Places.{place_from-append}
 use Rattle.sbe_events.specs.Spelling.{spelling_of, term_of}
 use Rattle.sbe_events.specs.declared.event.Event.{Event}

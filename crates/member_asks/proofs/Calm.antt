@@ -1,5 +1,5 @@
 -- What is refused, and a keep-alive: the member goes on with the same log.
-use Rattle.std.proofs.Common.{◌≡◌, ℕ, ℤ, ◌≤◌, suc, ◌+◌, Bool, List, [], ◌∷◌, ◌++◌, length, sym, ap, ◌∙◌, subst, arith, length-append}
+use Rattle.std.proofs.Common.{◌≡◌, ℕ, ℤ, ◌≤◌, Bool, List, [], ◌∷◌, ◌++◌, length, sym, ap, ◌∙◌, subst, arith, length-append}
 use Rattle.std.specs.Prelude.{IsTrue}
 use Rattle.cl_base.specs.Disk.{DiskState}
 use Rattle.cl_base.specs.declared.entry.Entry.{Entry}

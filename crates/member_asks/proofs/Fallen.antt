@@ -1,5 +1,5 @@
 -- A member whose disk failed at an append, and stopped: it is as before or after that append.
-use Rattle.std.proofs.Common.{◌≡◌, ℕ, ◌+◌, ◌<◌, ◌≤◌, zero, suc, List, [], ◌∷◌, ◌++◌, length, map, take, drop, refl, sym, ap, ◌∙◌, subst, arith}
+use Rattle.std.proofs.Common.{◌≡◌, ℕ, ◌+◌, ◌≤◌, suc, List, [], ◌∷◌, ◌++◌, length, map, take, drop, refl, sym, ap, ◌∙◌, subst, arith}
 use Rattle.std.proofs.Math.Seq.{drop-append_seam}
 use Rattle.std.proofs.lemmas.List.{append-nil, append_assoc, length-take-le}
 use Rattle.cl_base.specs.Disk.{FileState, DiskState, CrashLeaves, IsImage, IsImageOf, left_by, settled_file}
@@ -22,8 +22,8 @@ use Rattle.member_disk.specs.Kept.{Kept, IsSettled}
 use Rattle.consensus_core.specs.Member.{Run, stopped}
 use Rattle.run_world.specs.Seat.{Seat, at_rest, halted}
 use Rattle.run_orders.specs.Kept.{HasFaults, IsStateOf, IsStored}
-use Rattle.run_orders.specs.Stands.{EndedSeen, HasInput, HaveInputs, IsDown, IsEnded, IsSeat, parts_of}
-use Rattle.member_asks.specs.Made.{ended_by, ended_of, resting}
+use Rattle.run_orders.specs.Stands.{EndedSeen, HaveInputs, IsDown, IsEnded, parts_of}
+use Rattle.member_asks.specs.Made.{ended_by}
 
 -- ---- the disk after the crash
 
@@ -124,5 +124,5 @@ pub all-ended : (kinds : List Kind) (ended : List EndedSeen) (rs : List Run) (r 
     → Each2 IsEnded (ended ++ ended_by base cs) (parts_of (rs ++ r ∷ []))
 all-ended kinds ended rs r base log cs first low each have =
     let one : Each2 IsEnded (ended_by base cs) (map (part r.first) r.inputs ++ []) =
-        subst (λ (l : List (ℕ × Log)). Each2 IsEnded (ended_by base cs) l) (sym (append-nil (map (part r.first) r.inputs))) (subst (λ (n : ℕ). Each2 IsEnded (ended_by base cs) (map (part n) r.inputs)) first (run-ended kinds base log 0 cs r.inputs low have)) in
+    subst (λ (l : List (ℕ × Log)). Each2 IsEnded (ended_by base cs) l) (sym (append-nil (map (part r.first) r.inputs))) (subst (λ (n : ℕ). Each2 IsEnded (ended_by base cs) (map (part n) r.inputs)) first (run-ended kinds base log 0 cs r.inputs low have)) in
     subst (λ (l : List (ℕ × Log)). Each2 IsEnded (ended ++ ended_by base cs) l) (sym (parts-more rs r)) (each-both IsEnded ended (ended_by base cs) (parts_of rs) (map (part r.first) r.inputs ++ []) each one)

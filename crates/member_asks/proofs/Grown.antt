@@ -1,37 +1,35 @@
 -- A member with one more entry in its log, on both sides.
-use Rattle.std.proofs.Common.{◌≡◌, ℕ, ◌+◌, ◌<◌, ◌≤◌, zero, suc, ℤ, ◌≤ℤ◌, negsuc, Bool, true, false, List, [], ◌∷◌, ◌++◌, length, take, drop, Option, Some, None, refl, sym, ap, ◌∙◌, subst, arith, length-append}
-use Rattle.std.specs.Prelude.{IsTrue, All}
+use Rattle.std.proofs.Common.{◌≡◌, ℕ, ◌+◌, ◌≤◌, suc, ℤ, ◌≤ℤ◌, negsuc, Bool, List, [], ◌∷◌, ◌++◌, length, take, drop, Option, Some, None, refl, sym, ap, ◌∙◌, subst, arith, length-append}
+use Rattle.std.specs.Prelude.{IsTrue}
 use Rattle.std.proofs.lemmas.Int.{ints}
 use Rattle.std.proofs.lemmas.List.{take-append-le, drop-append-le}
 use Rattle.std.proofs.lemmas.List.Elements.{All-append, All-cons, All-nil}
 use Rattle.cl_base.specs.Disk.{FileState, DiskState}
-use Rattle.cl_base.specs.declared.disk.Choice.{Choice}
 use Rattle.cl_base.specs.declared.entry.Entry.{Entry}
 use Rattle.entry_log.specs.Log.{Log, RisesFrom, last_from, place}
 use Rattle.entry_log.specs.Durable.{Durable, SnapshotEntry}
-use Rattle.entry_log.specs.Shape.{shape_of, last_term_of, last_term_from, last_term_from-shape_of}
+use Rattle.entry_log.specs.Shape.{shape_of, last_term_of, last_term_from-shape_of}
 use Rattle.recording_log.specs.declared.entry.RecEntry.{RecEntry}
 use Rattle.sbe_events.specs.Laws.{encoded}
-use Rattle.sbe_events.specs.Spelling.{HasSpelling, spelling_of, term_of, event_of}
+use Rattle.sbe_events.specs.Spelling.{HasSpelling, term_of, event_of}
 use Rattle.sbe_events.specs.declared.event.Event.{Event}
 use Rattle.service_api.specs.declared.shipped.Kind.{Kind}
 use Rattle.service_api.specs.Service.{state_of}
-use Rattle.service_api.specs.declared.shipped.Shipped.{Shipped}
 use Rattle.service_container.specs.Held.{Held as ContainerHeld}
 use Rattle.service_container.specs.Records.{records_from}
 use Rattle.service_phases.specs.Pairs.{Each2}
 use Rattle.log_segment.specs.Held.{IsEventEntry, IsHeld}
 use Rattle.member_disk.specs.CutWell.{snapshots_of}
-use Rattle.member_disk.specs.Kept.{Kept, Held as DiskHeld, EachStands}
+use Rattle.member_disk.specs.Kept.{Kept, EachStands}
 use Rattle.member_module.specs.Held.{Held as ModuleHeld}
 use Rattle.module_state.specs.Entries.{events_in, with_event}
 use Rattle.module_state.specs.Services.{module_of}
 use Rattle.consensus_core.specs.Reign.{entry_of}
 use Rattle.consensus_agent.specs.Accepted.{HasMore}
-use Rattle.consensus_agent.specs.Disks.{KeepsSets, HasTerms}
+use Rattle.consensus_agent.specs.Disks.{KeepsSets}
 use Rattle.consensus_agent.specs.Rows.{IsKept}
 use Rattle.run_world.specs.Seat.{Seat, Fate}
-use Rattle.run_orders.specs.Kept.{HasFaults, IsMountable, IsStateOf, IsStored}
+use Rattle.run_orders.specs.Kept.{IsStateOf, IsStored}
 use Rattle.run_orders.specs.Stands.{HasInput, HasModule, HaveInputs, IsUp, UpSeen, containers_of}
 use Rattle.member_asks.specs.Clauses.{Stays}
 use Rattle.member_asks.proofs.Calm.{inputs-stay, phase-stays}

@@ -1,11 +1,10 @@
 -- What is asked of a member of a lawful world is one act of that world, or none.
-use Rattle.std.proofs.Common.{◌≡◌, ◌⊎◌, inl, inr, ℕ, ◌<◌, ◌≤◌, Bool, true, false, ◌&&◌, not, List, [], ◌∷◌, length, Option, refl, sym, ap, ◌∙◌, subst, arith, if◌then◌else◌}
+use Rattle.std.proofs.Common.{◌≡◌, ◌⊎◌, inl, inr, ℕ, ◌≤◌, Bool, true, false, ◌&&◌, not, List, [], length, refl, sym, ap, ◌∙◌, arith, if◌then◌else◌}
 use Rattle.std.specs.Prelude.{nat_lt}
 use Rattle.std.proofs.lemmas.Bool.{and_from, cases_lt, lt-ltb}
 use Rattle.std.proofs.lemmas.List.{get_or_past, length-map, set-get_or}
 use Rattle.cl_base.specs.Disk.{DiskState}
 use Rattle.commit_counter.specs.declared.role.Role.{Role}
-use Rattle.entry_log.specs.Log.{Log}
 use Rattle.entry_log.specs.Shape.{entry_shape}
 use Rattle.sbe_events.specs.declared.event.Event.{Event}
 use Rattle.service_api.specs.declared.shipped.Kind.{Kind}
@@ -17,11 +16,10 @@ use Rattle.consensus_core.specs.declared.values.Values.{Values}
 use Rattle.service_runs.specs.Hosts.{longer}
 use Rattle.run_world.specs.Lawful.{Lawful}
 use Rattle.run_world.specs.Seat.{Seat, Fate, Phase, acted, first_seat, lets_calls}
-use Rattle.run_world.specs.RunWorld.{RunWorld, Asks, Hears, committed, does, hears, is_free, is_up, may_ask, put, row_at, seat}
-use Rattle.run_orders.specs.Phases.{Called}
-use Rattle.run_orders.specs.Stands.{IsPhase, IsSeat, IsUp, SeatSeen, UpSeen, term_led}
+use Rattle.run_world.specs.RunWorld.{RunWorld, Asks, committed, does, hears, is_free, is_up, may_ask, put, row_at, seat}
+use Rattle.run_orders.specs.Stands.{IsPhase, IsSeat, IsUp, SeatSeen, UpSeen}
 use Rattle.member_asks.specs.Clauses.{Sound}
-use Rattle.member_asks.specs.Made.{Accepts, Falls, Makes, MakesOne}
+use Rattle.member_asks.specs.Made.{Falls, Makes, MakesOne}
 use Rattle.member_asks.proofs.Printing.{is-printed, prints-none}
 use Rattle.member_asks.proofs.Rowed.{commits, sends-none}
 

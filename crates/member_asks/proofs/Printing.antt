@@ -1,5 +1,5 @@
 -- What a member of a lawful world has committed is printed.
-use Rattle.std.proofs.Common.{◌≡◌, ℕ, ◌≤◌, List, [], length, ap, ◌∙◌, subst, arith}
+use Rattle.std.proofs.Common.{◌≡◌, ℕ, ◌≤◌, List, [], length, subst, arith}
 use Rattle.entry_log.specs.Log.{Log}
 use Rattle.service_api.specs.declared.shipped.Kind.{Kind}
 use Rattle.consensus_core.specs.Member.{Member}

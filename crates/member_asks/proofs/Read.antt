@@ -1,12 +1,11 @@
 -- What an event that a client asked for has of the client's bytes.
-use Rattle.std.proofs.Common.{◌≡◌, ℕ, ◌+◌, ◌<◌, ◌≤◌, ℤ, pos, Bool, true, false, ◌&&◌, ◌||◌, not, List, [], ◌∷◌, ◌++◌, length, take, drop, get_or, Option, Some, None, refl, sym, ap, ◌∙◌, subst, arith, if◌then◌else◌, inl, inr, ◌⊎◌}
+use Rattle.std.proofs.Common.{◌≡◌, ℕ, ◌+◌, ◌≤◌, ℤ, pos, Bool, true, false, ◌&&◌, ◌||◌, not, List, [], ◌++◌, length, drop, Option, Some, None, refl, sym, ap, ◌∙◌, subst, arith, if◌then◌else◌, inl, inr, ◌⊎◌}
 use Rattle.std.specs.Prelude.{nat_lt, nat_le, ◌==◌}
 use Rattle.std.proofs.lemmas.Bool.{ltb-false, leb-true, eqb-true, and_parts}
 use Rattle.std.proofs.lemmas.Bool.Decides.{nat_tests}
 use Rattle.wire_prims.specs.Fields.{u16_at, u32_at, i32_at, i64_at, IsBytes, bytes_take, bytes_drop}
-use Rattle.wire_prims.specs.Header.{bad}
 use Rattle.wire_prims.specs.declared.fault.Bad.{Bad}
-use Rattle.sbe_client.specs.Reading.{HasVariable, Opens, ReadsIngress, allows, block_end, checks, first_fault_ingress, first_of, has_variables, least_block, variable_at, variable_end, variables_of}
+use Rattle.sbe_client.specs.Reading.{HasVariable, Opens, ReadsIngress, allows, block_end, first_fault_ingress, has_variables, least_block, variable_at, variable_end, variables_of}
 use Rattle.sbe_client.specs.declared.check.Direction.TheVariants.{ToCluster}
 use Rattle.sbe_client.specs.declared.ingress.Ingress.{Ingress}
 use Rattle.sbe_client.specs.declared.ingress.Ingress.TheVariants as ingress
@@ -18,9 +17,9 @@ use Rattle.ingress.specs.declared.outcome.Outcome.TheVariants as outcome
 use Rattle.ingress.specs.declared.decision.Decided.{Decided}
 use Rattle.ingress.specs.declared.decision.Decided.TheVariants as decisions
 use Rattle.ingress.specs.declared.view.View.{View}
-use Rattle.ingress.specs.Outcomes.{Rows, first_row, leading_rows, action_rows, room_rows}
+use Rattle.ingress.specs.Outcomes.{first_row, leading_rows, action_rows, room_rows}
 use Rattle.ingress.specs.Decisions.{admitted, decided, decided_action, end_of, passed_on, rows_before, unless}
-use Rattle.consensus_agent.specs.Accepted.{IsDecided, IsDecidedAction}
+use Rattle.consensus_agent.specs.Accepted.{IsDecided}
 
 -- ---- bytes without a fault are a message
 
@@ -80,8 +79,7 @@ two-there at bytes h =
     let b = and_parts (nat_le (at + 4) (length bytes)) (nat_le (variable_end at bytes) (length bytes)) a.0 in
     let next = variable_end at bytes in
     let c = and_parts (nat_le (next + 4) (length bytes) && nat_le (variable_end next bytes) (length bytes)) (has_variables 0 (variable_end next bytes) bytes) a.1 in
-    let d = and_parts (nat_le (next + 4) (length bytes)) (nat_le (variable_end next bytes) (length bytes)) c.0 in
-    (
+    let d = and_parts (nat_le (next + 4) (length bytes)) (nat_le (variable_end next bytes) (length bytes)) c.0 in (
       record { length_there = leb-true (at + 4) (length bytes) b.0; all_there = leb-true (variable_end at bytes) (length bytes) b.1 },
       record { length_there = leb-true (next + 4) (length bytes) d.0; all_there = leb-true (variable_end next bytes) (length bytes) d.1 },
     )

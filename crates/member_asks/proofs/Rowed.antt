@@ -1,9 +1,8 @@
 -- The seat after the row of an event that was asked.
-use Rattle.std.proofs.Common.{◌≡◌, ◌⊎◌, inl, inr, ℕ, ◌≤◌, Bool, true, false, ◌&&◌, ◌||◌, not, List, [], ◌∷◌, ◌++◌, length, Option, refl, sym, ap, ◌∙◌, subst, arith, if◌then◌else◌, length-append}
+use Rattle.std.proofs.Common.{◌≡◌, ◌⊎◌, inl, inr, ℕ, ◌≤◌, Bool, true, false, ◌&&◌, ◌||◌, not, [], ◌∷◌, ◌++◌, length, Option, refl, ap, ◌∙◌, arith, if◌then◌else◌, length-append}
 use Rattle.std.specs.Prelude.{nat_lt}
 use Rattle.std.proofs.lemmas.Bool.Decides.{nat_tests}
 use Rattle.std.proofs.lemmas.List.{take-append-le}
-use Rattle.entry_log.specs.Log.{Log}
 use Rattle.entry_log.specs.Durable.{Durable}
 use Rattle.sbe_events.specs.declared.event.Event.{Event}
 use Rattle.consensus_core.specs.declared.change.Change.TheVariants as changes
@@ -118,6 +117,7 @@ commits s e now f within =
     whole : (x : Member) → x.values.rest.commit ≤ length x.durable.log → (b : Bool) → committed (after (if b then appends_one x e else nothing x.values.election x.values.rest) Whole x) ≡ committed x
     whole x within true = take-append-le x.values.rest.commit x.durable.log (entry_of e ∷ []) within
     whole x within false = refl
+
     at : (c : Cut) → committed (acted (row_of_client s.member e) now f s).member ≡ committed (after (row_of_client s.member e) c s.member) → (committed (acted (row_of_client s.member e) now f s).member ≡ committed s.member) ⊎ (committed (acted (row_of_client s.member e) now f s).member ≡ [])
     at Whole is = inl (is ∙ whole s.member within (is_ready s.member.values.election.state))
     at Before is = inr is

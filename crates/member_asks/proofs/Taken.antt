@@ -1,16 +1,16 @@
 -- What was decided on is done in the world.
-use Rattle.std.proofs.Common.{◌≡◌, ℕ, ℤ, ◌+◌, ◌<◌, ◌≤◌, inl, inr, ◌⊎◌, Bool, true, List, [], ◌∷◌, ◌++◌, length, None, refl, sym, ap, ◌∙◌, subst, arith}
+use Rattle.std.proofs.Common.{◌≡◌, ℕ, ℤ, ◌≤◌, inl, inr, Bool, true, List, [], ◌∷◌, ◌++◌, length, None, refl, sym, ap, ◌∙◌, subst, arith}
 use Rattle.std.specs.Prelude.{IsTrue}
 use Rattle.std.proofs.lemmas.List.{length-map}
-use Rattle.cl_base.specs.Disk.{FileState, DiskState, CrashLeaves}
+use Rattle.cl_base.specs.Disk.{DiskState, CrashLeaves}
 use Rattle.cl_base.specs.Images.{IsSound as IsSoundFile}
 use Rattle.cl_base.specs.declared.disk.Choice.{Choice}
 use Rattle.wire_prims.specs.Fields.{IsBytes}
 use Rattle.election.specs.declared.member.State.{State}
 use Rattle.election.specs.declared.member.State.TheVariants.{LeaderReady}
 use Rattle.entry_log.specs.Durable.{Durable}
-use Rattle.entry_log.specs.Log.{Log, place}
-use Rattle.entry_log.specs.Shape.{shape_of, entry_shape}
+use Rattle.entry_log.specs.Log.{Log}
+use Rattle.entry_log.specs.Shape.{entry_shape}
 use Rattle.sbe_events.specs.Spelling.{HasSpelling, content_of}
 use Rattle.sbe_events.specs.declared.event.Event.{Event}
 use Rattle.service_api.specs.declared.shipped.Kind.{Kind}
@@ -22,21 +22,21 @@ use Rattle.ingress.specs.declared.outcome.Outcome.{Outcome}
 use Rattle.ingress.specs.declared.view.View.{View}
 use Rattle.ingress.specs.Decisions.{Admits, IsAdmitted}
 use Rattle.log_segment.specs.Held.{IsHeld}
-use Rattle.member_disk.specs.Kept.{Kept, Held as DiskHeld}
+use Rattle.member_disk.specs.Kept.{Kept}
 use Rattle.member_disk.specs.CutWell.{IsDurable, IsDurableOne}
 use Rattle.member_module.specs.Held.{at_end}
 use Rattle.module_state.specs.Entries.{IsSpellable}
 use Rattle.module_state.specs.Module.{Module}
 use Rattle.consensus_core.specs.declared.change.Change.TheVariants as changes
 use Rattle.consensus_core.specs.declared.values.Values.{Values}
-use Rattle.consensus_core.specs.Member.{Whole, Before, After, is_ready, row_of_client, stopped}
+use Rattle.consensus_core.specs.Member.{is_ready, stopped}
 use Rattle.consensus_core.specs.Reign.{entry_of}
 use Rattle.consensus_agent.specs.Accepted.{HasMore, IsAppended, IsDone, IsView, Leaves, OnNothingNew}
 use Rattle.consensus_agent.specs.Disks.{IsRight, Went, changed_kept}
-use Rattle.run_world.specs.Seat.{Seat, acted, halted}
+use Rattle.run_world.specs.Seat.{Seat, halted}
 use Rattle.run_world.specs.RunWorld.{may_ask, view_at}
-use Rattle.run_orders.specs.Kept.{HasFaults, IsStateOf}
-use Rattle.run_orders.specs.Stands.{EndedSeen, SeatSeen, IsDown, IsEnded, IsSeat, IsUp, UpSeen, containers_of, parts_of}
+use Rattle.run_orders.specs.Kept.{IsStateOf}
+use Rattle.run_orders.specs.Stands.{EndedSeen, SeatSeen, IsEnded, IsSeat, IsUp, UpSeen, containers_of, parts_of}
 use Rattle.run_orders.proofs.Standing.{sees-end}
 use Rattle.member_asks.specs.Clauses.{Adds, OnAppend, Sound, Stays}
 use Rattle.member_asks.specs.Made.{Accepts, Falls, Makes, ended_by, resting, running}
@@ -44,7 +44,7 @@ use Rattle.member_asks.proofs.Asking.{may-ask, ready, room}
 use Rattle.member_asks.proofs.Calm.{heard-seat, nothing-new, refused}
 use Rattle.member_asks.proofs.Fallen.{all-ended, down-as, faults-down, is-image, left}
 use Rattle.member_asks.proofs.Grown.{held-grown, module-grown, up-grown}
-use Rattle.member_asks.proofs.Rowed.{acted-after, acted-before, acted-whole, fate_after, fate_before, grown, longer_by, whole_fate}
+use Rattle.member_asks.proofs.Rowed.{acted-after, acted-before, acted-whole, fate_after, fate_before, longer_by, whole_fate}
 
 leads-there : (s : State) → is_ready s ≡ true → s ≡ LeaderReady
 leads-there LeaderReady lead = refl
@@ -106,7 +106,7 @@ module _ {D : Type 0} (state : D → DiskState) (is_told is_honest : D → Bool)
 
     -- the disk failed at it, and the member stopped
     module _ (v : UpSeen D) (choice : Choice) (ended : List EndedSeen) (d : D) (files : (x : D) → IsTrue (is_honest x) → (g : ℕ) → IsSoundFile ((state x).files g)) (honest : IsTrue (is_honest u.disk.disk)) (stays : Stays u v) (sound : Sound u)
-      (fits : IsSpellable e) (went : Went state is_told is_honest (changes.Append (entry_of e ∷ [])) u.disk v.disk) (crash : CrashLeaves choice (state v.disk.disk) (state d)) (seat : IsSeat state kinds (running u going choice ended) s) where
+        (fits : IsSpellable e) (went : Went state is_told is_honest (changes.Append (entry_of e ∷ [])) u.disk v.disk) (crash : CrashLeaves choice (state v.disk.disk) (state d)) (seat : IsSeat state kinds (running u going choice ended) s) where
       abbrev own : ℕ
       own = (state d).own_faults
 

@@ -1,5 +1,5 @@
 -- What a member says of an order of a client, or of an action: the clauses of `Agent::client` and of `Agent::action`, field by field, of what a driver has of it.
-use Rattle.std.specs.Prelude.{◌≡◌, ⊤, ℕ, ℤ, Bool, IsTrue, IfSome, List, [], ◌∷◌, Option}
+use Rattle.std.specs.Prelude.{◌≡◌, ⊤, ℕ, Bool, IfSome, List, [], ◌∷◌, Option}
 use Rattle.cl_base.specs.Disk.{DiskState}
 use Rattle.wire_prims.specs.Fields.{IsBytes}
 use Rattle.sbe_events.specs.Spelling.{HasSpelling}

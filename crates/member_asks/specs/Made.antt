@@ -1,5 +1,5 @@
 -- What an order of a client, or an action, makes of a member in the world of a run.
-use Rattle.std.specs.Prelude.{◌≡◌, ◌⊎◌, ℕ, Bool, true, false, List, [], ◌∷◌, map}
+use Rattle.std.specs.Prelude.{◌≡◌, ◌⊎◌, ℕ, Bool, true, false, List, [], map}
 use Rattle.cl_base.specs.Disk.{DiskState}
 use Rattle.cl_base.specs.declared.disk.Choice.{Choice}
 use Rattle.cl_base.specs.declared.disk.Choice.TheVariants.{Keep}
