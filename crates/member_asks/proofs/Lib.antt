@@ -1,0 +1,12 @@
+pub mod Calm
+pub mod Asking
+pub mod Rowed
+pub mod Read
+pub mod Grown
+pub mod Fallen
+pub mod Taken
+pub mod Answered
+pub mod Direct
+pub mod Printing
+pub mod Ordered
+pub mod Between
