@@ -9,6 +9,7 @@ use Rattle.service_phases.specs.Feeds.{FeedsFrom, FeedHolds, FeedEnds, Finishes}
 use Rattle.service_phases.specs.Phases.{Began, BeginsAt, Closed, HasAll, IsAt, IsWithin, Lending, RanFor, containers, forgetting, keeping}
 use Rattle.service_phases.specs.Stages.{Begins, IsIdle, Stage, forgot}
 use Rattle.service_phases.proofs.FedLog.{begins, ends, holds}
+use Rattle.consensus_core.specs.Fit.{Held as CoreHeld}
 use Rattle.member_module.specs.Held.{Held as ModuleHeld}
 use Rattle.run_phases.specs.Logs.{FeedsLog, FromToEnd, HoldsLog}
 use Rattle.run_phases.proofs.Lists.{each_after, each_map, each_weaker, each2_right, each2_then, each2_weaker, each2_with, same_length, written}
@@ -105,6 +106,9 @@ next_log log s t fed served feeds jobs commit began ran closed from within =
     (all_begin log s.commit (containers served) feeds (each_map (λ (u : Served). u.container) (Reaches log s.commit) served all) began.begins)
 
 -- ---- a phase's containers come back
+
+abbrev pub commit_in : CoreHeld → ℕ
+commit_in c = c.values.rest.commit
 
 -- the containers that came back, by what ending the phase tells
 pub back_within : (log : List Entry) (s : Stage) (commit : ℕ) (feeds ends : List Fed) (served : List Served) (ds : List Held) → s.commit ≡ commit → ds ≡ containers served → FeedsLog log s feeds

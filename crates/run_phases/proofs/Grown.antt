@@ -1,11 +1,12 @@
 -- Containers consume in stretches.
 use Rattle.std.proofs.Common.{◌≡◌, ℕ, true, List, [], ◌∷◌, ◌++◌, map, refl, sym, ap, ◌∙◌, subst}
 use Rattle.std.proofs.lemmas.List.{append-nil}
+use Rattle.commit_counter.specs.Ends.{Fed}
 use Rattle.service_container.specs.Held.{Held, consumed_to}
 use Rattle.service_container.specs.declared.container.Served.{Served}
 use Rattle.service_container.proofs.Stretches.{applies_twice}
 use Rattle.service_phases.specs.Pairs.{Each, Each2}
-use Rattle.service_phases.specs.Phases.{HasEndedWell, Lending, RanFor, containers, forgetting}
+use Rattle.service_phases.specs.Phases.{Began, HasEndedWell, Lending, RanFor, containers, forgetting}
 use Rattle.service_phases.specs.Stages.{IsLent}
 use Rattle.owed_egress.specs.Outbox.{IndicesRise}
 use Rattle.owed_egress.proofs.Rising.{rise_outbox}
@@ -73,6 +74,9 @@ all_whole (d ∷ ds) [] r e = absurd r
 all_whole (d ∷ ds) (s ∷ ss) r e = ((r.0.end e.0).0, all_whole ds ss r.1 e.1)
 
 -- ---- a phase's containers come back
+
+pub began_lent : (a b : Lending) (feeds : List Fed) (jobs : List Served) → Began a b feeds jobs → b.lent ≡ a.kept
+began_lent a b feeds jobs h = ap (λ (x : Lending). x.lent) h.lending
 
 -- of a phase whose containers were all lent those that came back are kept
 pub kept_back : (k : List Held) (l : Lending) (jobs : List Served) → k ≡ [] → l ≡ record { kept = k ++ containers jobs; lent = []; begun = [] } → l.kept ≡ containers jobs

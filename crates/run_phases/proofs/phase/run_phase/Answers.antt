@@ -13,8 +13,8 @@ use Rattle.service_phases.specs.Phases.{HasEndedWell, IsWithin, Lending, forgett
 use Rattle.service_phases.specs.Stages.{HasRun, Stage}
 use Rattle.run_phases.specs.Grown.{GoesOn, Grew}
 use Rattle.run_phases.proofs.Stages.{begins_runs, may_serve, run_back, ends_due, ends_bound, goes_on_runs}
-use Rattle.run_phases.proofs.Grown.{all_none, all_ran, all_rising, all_whole, came_grown, forgot_grown, kept_back}
-use Rattle.run_phases.proofs.Fronts.{ahead_same, all_ends, all_to_within, back_all, back_within, begun_log, due_all, forgot_within, next_log}
+use Rattle.run_phases.proofs.Grown.{all_grew, all_none, all_ran, all_rising, all_whole, began_lent, came_grown, forgot_grown, kept_back}
+use Rattle.run_phases.proofs.Fronts.{ahead_same, commit_in, all_ends, all_to_within, back_all, back_within, begun_log, due_all, forgot_within, next_log}
 use Rattle.run_phases.proofs.Results.{on_ok, owed_none, state_none}
 use Rattle.run_phases.proofs.Short.{any_all, any_within}
 use Rattle.run_phases.proofs.phase.run_phase.Goals as goal
@@ -35,7 +35,7 @@ pub next_images-requires-clause-run : goal.next_images-requires-clause-run
 next_images-requires-clause-run g c = run_back _ _ _ _ _ _ c.loop.invariant.runs c.drive-fed.ensures.ended c.lend.ensures c.take_back-served.ensures.ran
 
 pub have_published-requires : goal.have_published-requires
-have_published-requires g c = rw (c.as_slice-in-loop.ensures, c.commit.ensures) (ends_due _ _ _ c.drive-fed.ensures.ended)
+have_published-requires g c = rw (c.as_slice-in-loop.ensures, c.commit-in-loop.ensures) (ends_due _ _ _ c.drive-fed.ensures.ended)
 
 pub next_images-requires-clause-bound : goal.next_images-requires-clause-bound
 next_images-requires-clause-bound g c = ends_bound _ _ _ c.loop.invariant.feeding.bound c.drive-fed.ensures.ended
@@ -48,7 +48,7 @@ loop-init g c =
     let t : Stage = stage b.services b.module b.core b.over in
     let begun = c.in_ok-feeds.ensures.begun in
     let r = begins_runs s t _ _ c.requires.idle begun in
-    let lent : b.services.lent ≡ map forgetting a.services.kept = ap (λ (l : Lending). l.lent) begun.began.lending in
+    let lent : b.services.lent ≡ map forgetting a.services.kept = began_lent _ b.services _ _ begun.began in
     record {
       runs = r.0;
       feeding = r.1;
@@ -94,9 +94,135 @@ loop-preserved g c =
       base = c.next_images.ensures.base ∙ i.base;
       disk = c.next_images.ensures.disk ∙ i.disk;
       role = c.next_images.ensures.role ∙ i.role;
-      grew = subst (Each2 GoesOn cs) (sym (ap (λ (l : Lending). l.lent) began.lending)) (all_ran _ cs _ _ i.grew i.runs.lent ran.ran);
+      grew = subst (Each2 GoesOn cs) (sym (began_lent _ _ _ _ began)) (all_ran _ cs _ _ i.grew i.runs.lent ran.ran);
       log = λ log is reach within.
           let has = i.log log is reach within in
           let from = c.drive-fed.ensures.log log a.services.begun (ahead_same log _ _ i.held is) has.fed in
           next_log log s t _ _ _ _ commit began ran.ran c.next_images.ensures.closed from (c.next_images.ensures.within log s.commit has.lent (all_ends _ _ _ _ from));
     }
+
+-- ---- no phase began
+
+pub returns-in_err-feeds-clause-grew : goal.returns-in_err-feeds-clause-grew
+returns-in_err-feeds-clause-grew g c due = forgot_grown _ _ (ap (λ (l : Lending). l.kept) c.in_err-feeds.ensures.forgot)
+
+pub returns-in_err-feeds-clause-within : goal.returns-in_err-feeds-clause-within
+returns-in_err-feeds-clause-within g c log is within =
+    subst (Each (IsWithin log c.args.agent.now.core.values.rest.commit)) (sym (ap (λ (l : Lending). l.kept) c.in_err-feeds.ensures.forgot)) (forgot_within log _ _ within)
+
+-- ---- the phase was dropped
+
+pub returns-in-Err-clause-grew : goal.returns-in-Err-clause-grew
+returns-in-Err-clause-grew g c due =
+    let i = c.loop.invariant in
+    let ran = run_back _ _ _ _ _ _ i.runs c.drive-fed.ensures.ended c.lend.ensures c.take_back-served.ensures.ran in
+    came_grown _ _ _ _ c.take_back-served.result (kept_back _ _ c.take_back-served.result i.kept c.phase_drop.ensures.kept) i.grew i.runs.lent ran.ran
+
+pub returns-in-Err-clause-within : goal.returns-in-Err-clause-within
+returns-in-Err-clause-within g c log is within =
+    let i = c.loop.invariant in
+    let ran = run_back _ _ _ _ _ _ i.runs c.drive-fed.ensures.ended c.lend.ensures c.take_back-served.ensures.ran in
+    let a = c.loop.agent in
+    let kept = (kept_back _ _ c.take_back-served.result i.kept c.phase_drop.ensures.kept) in
+    any_within _ _ _ log c.args.agent.now.services.kept c.phase_drop.new.self.services.kept c.requires.idle.kept (came_grown _ _ _ _ c.take_back-served.result kept i.grew i.runs.lent ran.ran)
+    (λ long there reach w.
+    back_within long (stage a.services a.«module» a.core a.over) c.args.agent.now.core.values.rest.commit c.loop.feeds c.drive-fed.new.feeds c.take_back-served.result c.phase_drop.new.self.services.kept (ap commit_in i.core) kept (i.log long there reach w)
+    (λ fed. c.drive-fed.ensures.log long a.services.begun (ahead_same long _ _ i.held there) fed)
+    (λ lent ends. c.phase_drop.ensures.within long _ lent ends))
+    is within
+
+pub returns-then-not-have_ended-clause-grew : goal.returns-then-not-have_ended-clause-grew
+returns-then-not-have_ended-clause-grew g c due =
+    let i = c.loop.invariant in
+    let ran = run_back _ _ _ _ _ _ i.runs c.drive-fed.ensures.ended c.lend.ensures c.take_back-served.ensures.ran in
+    came_grown _ _ _ _ c.take_back-served.result (kept_back _ _ c.take_back-served.result i.kept c.phase_drop-then-not-have_ended.ensures.kept) i.grew i.runs.lent ran.ran
+
+pub returns-then-not-have_ended-clause-within : goal.returns-then-not-have_ended-clause-within
+returns-then-not-have_ended-clause-within g c log is within =
+    let i = c.loop.invariant in
+    let ran = run_back _ _ _ _ _ _ i.runs c.drive-fed.ensures.ended c.lend.ensures c.take_back-served.ensures.ran in
+    let a = c.loop.agent in
+    let kept = (kept_back _ _ c.take_back-served.result i.kept c.phase_drop-then-not-have_ended.ensures.kept) in
+    any_within _ _ _ log c.args.agent.now.services.kept c.phase_drop-then-not-have_ended.new.self.services.kept c.requires.idle.kept (came_grown _ _ _ _ c.take_back-served.result kept i.grew i.runs.lent ran.ran)
+    (λ long there reach w.
+    back_within long (stage a.services a.«module» a.core a.over) c.args.agent.now.core.values.rest.commit c.loop.feeds c.drive-fed.new.feeds c.take_back-served.result c.phase_drop-then-not-have_ended.new.self.services.kept (ap commit_in i.core) kept (i.log long there reach w)
+    (λ fed. c.drive-fed.ensures.log long a.services.begun (ahead_same long _ _ i.held there) fed)
+    (λ lent ends. c.phase_drop-then-not-have_ended.ensures.within long _ lent ends))
+    is within
+
+-- ---- no further images were had
+
+pub returns-in_err-next-clause-grew : goal.returns-in_err-next-clause-grew
+returns-in_err-next-clause-grew g c due =
+    let i = c.loop.invariant in
+    let ran = run_back _ _ _ _ _ _ i.runs c.drive-fed.ensures.ended c.lend.ensures c.take_back-served.ensures.ran in
+    came_grown _ _ _ _ c.take_back-served.result (ap (λ (l : Lending). l.kept) c.in_err-next.ensures.kept) i.grew i.runs.lent ran.ran
+
+pub returns-in_err-next-clause-within : goal.returns-in_err-next-clause-within
+returns-in_err-next-clause-within g c log is within =
+    let i = c.loop.invariant in
+    let ran = run_back _ _ _ _ _ _ i.runs c.drive-fed.ensures.ended c.lend.ensures c.take_back-served.ensures.ran in
+    let a = c.loop.agent in
+    let kept = (ap (λ (l : Lending). l.kept) c.in_err-next.ensures.kept) in
+    any_within _ _ _ log c.args.agent.now.services.kept c.next_images.new.self.services.kept c.requires.idle.kept (came_grown _ _ _ _ c.take_back-served.result kept i.grew i.runs.lent ran.ran)
+    (λ long there reach w.
+    back_within long (stage a.services a.«module» a.core a.over) c.args.agent.now.core.values.rest.commit c.loop.feeds c.drive-fed.new.feeds c.take_back-served.result c.next_images.new.self.services.kept (ap commit_in i.core) kept (i.log long there reach w)
+    (λ fed. c.drive-fed.ensures.log long a.services.begun (ahead_same long _ _ i.held there) fed)
+    (λ lent ends. c.next_images.ensures.within long _ lent ends))
+    is within
+
+-- ---- the phase ended
+
+pub returns-then-have_published-clause-grew : goal.returns-then-have_published-clause-grew
+returns-then-have_published-clause-grew g c due =
+    let i = c.loop.invariant in
+    let ran = run_back _ _ _ _ _ _ i.runs c.drive-fed.ensures.ended c.lend.ensures c.take_back-served.ensures.ran in
+    came_grown _ _ _ _ c.take_back-served.result (ap (λ (l : Lending). l.kept) c.phase_end.ensures.kept) i.grew i.runs.lent ran.ran
+
+pub returns-then-have_published-clause-within : goal.returns-then-have_published-clause-within
+returns-then-have_published-clause-within g c log is within =
+    let i = c.loop.invariant in
+    let ran = run_back _ _ _ _ _ _ i.runs c.drive-fed.ensures.ended c.lend.ensures c.take_back-served.ensures.ran in
+    let a = c.loop.agent in
+    let kept = (ap (λ (l : Lending). l.kept) c.phase_end.ensures.kept) in
+    any_within _ _ _ log c.args.agent.now.services.kept c.phase_end.new.self.services.kept c.requires.idle.kept (came_grown _ _ _ _ c.take_back-served.result kept i.grew i.runs.lent ran.ran)
+    (λ long there reach w.
+    back_within long (stage a.services a.«module» a.core a.over) c.args.agent.now.core.values.rest.commit c.loop.feeds c.drive-fed.new.feeds c.take_back-served.result c.phase_end.new.self.services.kept (ap commit_in i.core) kept (i.log long there reach w)
+    (λ fed. c.drive-fed.ensures.log long a.services.begun (ahead_same long _ _ i.held there) fed)
+    (λ lent ends. all_to_within long _ _ (c.phase_end.ensures.all long lent ends)))
+    is within
+
+pub returns-then-have_published-clause-all : goal.returns-then-have_published-clause-all
+returns-then-have_published-clause-all g c log is within =
+    let i = c.loop.invariant in
+    let ran = run_back _ _ _ _ _ _ i.runs c.drive-fed.ensures.ended c.lend.ensures c.take_back-served.ensures.ran in
+    let a = c.loop.agent in
+    let kept = ap (λ (l : Lending). l.kept) c.phase_end.ensures.kept in
+    on_ok _ _ (any_all _ _ _ log c.args.agent.now.services.kept c.phase_end.new.self.services.kept c.requires.idle.kept (came_grown _ _ _ _ c.take_back-served.result kept i.grew i.runs.lent ran.ran)
+    (λ long there reach w.
+    back_all long (stage a.services a.«module» a.core a.over) c.args.agent.now.core.values.rest.commit c.loop.feeds c.drive-fed.new.feeds c.take_back-served.result c.phase_end.new.self.services.kept (ap commit_in i.core) kept (i.log long there reach w)
+    (λ fed. c.drive-fed.ensures.log long a.services.begun (ahead_same long _ _ i.held there) fed)
+    (λ lent ends. c.phase_end.ensures.all long lent ends))
+    is within)
+
+pub returns-then-have_published-clause-state : goal.returns-then-have_published-clause-state
+returns-then-have_published-clause-state g c =
+    let i = c.loop.invariant in
+    let ran = run_back _ _ _ _ _ _ i.runs c.drive-fed.ensures.ended c.lend.ensures c.take_back-served.ensures.ran in
+    let ended : Each HasEndedWell c.take_back-served.result = search rules in
+    let n = c.phase_end.new.self in
+    let kept = ap (λ (l : Lending). l.kept) c.phase_end.ensures.kept in
+    let back = all_grew _ _ (all_ran _ _ _ c.take_back-served.result i.grew i.runs.lent ran.ran) in
+    let F : List Held × (ModuleHeld × CoreHeld) → Type 0 = λ z. OnOk c.phase_end.result (n.«module».state ≡ module_over (outboxes z.0) z.1.0.consumed z.1.0.state (take (z.1.1.values.rest.commit - z.1.0.consumed) z.1.0.ahead.events)) in
+    subst F (λ j. (sym kept j, (i.held j, i.core j))) (c.phase_end.ensures.state (all_rising _ _ back (all_whole _ _ ran.ran ended)))
+
+pub returns-then-have_published-clause-owed : goal.returns-then-have_published-clause-owed
+returns-then-have_published-clause-owed g c =
+    let i = c.loop.invariant in
+    let ran = run_back _ _ _ _ _ _ i.runs c.drive-fed.ensures.ended c.lend.ensures c.take_back-served.ensures.ran in
+    let ended : Each HasEndedWell c.take_back-served.result = search rules in
+    let kept = ap (λ (l : Lending). l.kept) c.phase_end.ensures.kept in
+    let back = all_grew _ _ (all_ran _ _ _ c.take_back-served.result i.grew i.runs.lent ran.ran) in
+    let F : Role × (List Held × (ModuleHeld × CoreHeld)) → Type 0 =
+    λ z. IfOk c.phase_end.result (λ sent. sent ≡ sent_over z.0 (outboxes z.1.0) z.1.1.0.consumed z.1.1.0.state (take (z.1.1.1.values.rest.commit - z.1.1.0.consumed) z.1.1.0.ahead.events)) in
+    subst F (λ j. (i.role j, (sym kept j, (i.held j, i.core j)))) (c.phase_end.ensures.owed (all_rising _ _ back (all_whole _ _ ran.ran ended)))
