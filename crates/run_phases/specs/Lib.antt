@@ -1,1 +1,3 @@
 pub mod Frees
+pub mod Grown
+pub mod Logs

@@ -1,8 +1,16 @@
 // A phase within one call.
-ghost use Rattle.std.specs.Prelude.{◌≡◌, [], true, Ok, OnOk};
+ghost use Rattle.std.specs.Prelude.{◌≡◌, ◌-◌, ◌<◌, ◌≤◌, List as ListOf, [], true, take, drop, Ok, OnOk, IfOk, IsTrue};
+ghost use Rattle.cl_base.specs.declared.entry.Entry.{Entry as LogEntry};
+ghost use Rattle.commit_counter.specs.Ends.{Fed as FedBy};
+ghost use Rattle.consensus_agent.specs.Consumed.{HasConsumed, outboxes, role_in};
 ghost use Rattle.consensus_agent.specs.Phases.{stage};
-ghost use Rattle.service_phases.specs.Pairs.{Each2};
-ghost use Rattle.service_phases.specs.Feeds.{FedToEnd};
+ghost use Rattle.consensus_agent.specs.Rows.{IsKept};
+ghost use Rattle.owed_egress.specs.Taken.{module_over, sent_over};
+ghost use Rattle.run_phases.specs.Grown.{Grew};
+ghost use Rattle.run_phases.specs.Logs.{FromToEnd};
+ghost use Rattle.service_phases.specs.Pairs.{Each, Each2};
+ghost use Rattle.service_phases.specs.Feeds.{FedToEnd, FeedsFrom};
+ghost use Rattle.service_phases.specs.Phases.{HasAll, IsWithin};
 ghost use Rattle.service_phases.specs.Stages.{IsIdle, IsFeeding};
 
 use cl_base::{Disk, List};
@@ -24,6 +32,8 @@ fn drive<R: Wait, D: Disk>(
 ) -> Result<(), AgentFault>
     requires feeding { IsFeeding (stage agent.now.services agent.now.module agent.now.core agent.now.over) feeds.old }
     ensures ended { Each2 (FedToEnd (stage agent.now.services agent.now.module agent.now.core agent.now.over).commit) feeds.old feeds.new }
+    // What was fed of a log is the log's to the end, where the module has its entries ahead.
+    ensures log { (log : ListOf LogEntry) (begun : ListOf FedBy) → agent.now.module.ahead.entries ≡ drop agent.now.module.consumed log → Each2 (FeedsFrom log agent.now.core.values.rest.commit) begun feeds.old → Each2 (FromToEnd log agent.now.core.values.rest.commit) begun feeds.new }
 {
     let fed = agent.feed(rt, feeds);
     finish_each(feeds.as_mut_slice());
@@ -49,8 +59,26 @@ pub fn run_phase<
     requires none { lanes.old ≡ [] }
     ensures idle { OnOk result (IsIdle (stage agent.new.services agent.new.module agent.new.core agent.new.over)) }
     ensures none { lanes.new ≡ [] }
+    // Where nothing is due nothing is done.
+    ensures rests { agent.old.core.values.rest.commit ≤ agent.old.module.consumed → (result ≡ Ok []) × (agent.new ≡ agent.old) }
+    // Each container came back, and consumed what it did since its outbox was emptied.
+    ensures back { agent.new.services.lent ≡ [] }
+    ensures grew { agent.old.module.consumed < agent.old.core.values.rest.commit → Each2 Grew agent.old.services.kept agent.new.services.kept }
+    // What each service consumed is the log's within the commit, and in the end all of it.
+    ensures within { (log : ListOf LogEntry) → agent.old.module.ahead.entries ≡ drop agent.old.module.consumed log → Each (IsWithin log agent.old.core.values.rest.commit) agent.old.services.kept → Each (IsWithin log agent.old.core.values.rest.commit) agent.new.services.kept }
+    ensures all { (log : ListOf LogEntry) → agent.old.module.ahead.entries ≡ drop agent.old.module.consumed log → Each (IsWithin log agent.old.core.values.rest.commit) agent.old.services.kept → OnOk result (Each (HasAll log agent.old.core.values.rest.commit) agent.new.services.kept) }
+    // The module takes the entries ahead up to the commit, each with what the services ask at it by their outboxes.
+    ensures state { OnOk result (agent.new.module.state ≡ module_over (outboxes agent.new.services.kept) agent.old.module.consumed agent.old.module.state (take (agent.old.core.values.rest.commit - agent.old.module.consumed) agent.old.module.ahead.events)) }
+    ensures ahead { OnOk result (agent.new.module.ahead.entries ≡ drop (agent.old.core.values.rest.commit - agent.old.module.consumed) agent.old.module.ahead.entries) }
+    ensures rest { OnOk result (HasConsumed agent.old.module agent.new.module) }
+    // What they owe is given, one entry after the other, by what the member was as the phase began.
+    ensures owed { IfOk result (λ sent. sent ≡ sent_over (role_in agent.old.core.values) (outboxes agent.new.services.kept) agent.old.module.consumed agent.old.module.state (take (agent.old.core.values.rest.commit - agent.old.module.consumed) agent.old.module.ahead.events)) }
+    ensures core { agent.new.core ≡ agent.old.core }
+    ensures base { agent.new.base ≡ agent.old.base }
+    ensures whole { agent.old.module.consumed < agent.old.core.values.rest.commit → OnOk result (IsTrue agent.new.is_whole) }
+    ensures durable { IsKept agent.old.disk.kept.node agent.old.disk.kept.log agent.new.disk.kept }
 {
-    if !agent.is_due() {
+    if agent.commit() <= agent.consumed() {
         return Ok(List::new(alloc));
     }
     let (mut feeds, mut jobs) = agent.phase_begin()?;
