@@ -1,5 +1,5 @@
 -- What a member answers with.
-use Rattle.std.proofs.Common.{◌≡◌, ℕ, ◌≤◌, Bool, ◌&&◌, ◌||◌, length, take, drop, ap, arith}
+use Rattle.std.proofs.Common.{ℕ, ◌≤◌, ◌&&◌, ◌||◌, length, take, drop, ap, arith}
 use Rattle.std.specs.Prelude.{is_some, nat_le, sum}
 use Rattle.std.proofs.lemmas.Bool.{and_parts, leb-true}
 use Rattle.std.proofs.lemmas.List.{length-take}

@@ -1,2 +1,4 @@
 pub mod Going
 pub mod Calls
+pub mod Seen
+pub mod Asked

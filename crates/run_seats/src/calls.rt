@@ -1,6 +1,9 @@
 // The calls of a running member.
-ghost use Rattle.std.specs.Prelude.{◌≤◌, ◌^◌};
+ghost use Rattle.std.specs.Prelude.{◌≤◌, ◌^◌, IsTrue, IfOk, OnErr, OnOk};
+ghost use Rattle.member_rows.specs.Calls.{PacketCut, RowCut, RowDone, duty_row};
+ghost use Rattle.run_seats.specs.Asked.{TookBytes};
 ghost use Rattle.run_seats.specs.Calls.{Called};
+ghost use Rattle.run_seats.specs.Seen.{stage_of};
 
 use crate::member::Member;
 use cl_base::{Disk, List};
@@ -42,7 +45,7 @@ impl<D: Disk> Member<D> {
         outside: &mut Outside,
         call: Call<'_>,
     ) -> Result<Option<Outcome>, AgentFault>
-        ensures { Called result self.old self.new }
+        ensures { Called result (stage_of self.old) (stage_of self.new) }
     {
         let outcome = self.answer_of(outside, call)?;
         self.print(outside)?;
@@ -55,7 +58,7 @@ impl<D: Disk> Member<D> {
         outside: &mut Outside,
         call: Call<'_>,
     ) -> Result<Option<Outcome>, AgentFault>
-        ensures { Called result self.old self.new }
+        ensures { Called result (stage_of self.old) (stage_of self.new) }
     {
         let Call {
             member,
@@ -86,7 +89,10 @@ impl<D: Disk> Member<D> {
     /// Takes the bytes of a packet, `now` in ms.
     fn deliver(&mut self, bytes: &[u8], now: u64) -> Result<Delivered, AgentFault>
         requires { now ≤ 2 ^ 60 }
-        ensures { Called result self.old self.new }
+        ensures called { Called result (stage_of self.old) (stage_of self.new) }
+        ensures whole { OnOk result (IsTrue self.new.whole) }
+        ensures took { IsTrue self.old.whole → IfOk result (TookBytes D.state D.tells D.is_honest bytes.now now self.old.seen self.new.seen) }
+        ensures cut { IsTrue self.old.whole → OnErr result (PacketCut D.state D.tells D.is_honest bytes.now now self.old.seen self.new.seen) }
     {
         self.agent.deliver(bytes, now)
     }
@@ -94,7 +100,10 @@ impl<D: Disk> Member<D> {
     /// Does the duty of its state, `now` in ms.
     fn duty(&mut self, now: u64) -> Result<List<Outgoing>, AgentFault>
         requires { now ≤ 2 ^ 60 }
-        ensures { Called result self.old self.new }
+        ensures called { Called result (stage_of self.old) (stage_of self.new) }
+        ensures whole { OnOk result (IsTrue self.new.whole) }
+        ensures row { IsTrue self.old.whole → IfOk result (RowDone D.state D.tells D.is_honest (duty_row self.old.seen now) now self.old.seen self.new.seen) }
+        ensures cut { IsTrue self.old.whole → OnErr result (RowCut D.state D.tells D.is_honest (duty_row self.old.seen now) self.old.seen self.new.seen) }
     {
         self.agent.duty(now)
     }
@@ -102,7 +111,7 @@ impl<D: Disk> Member<D> {
     /// Takes the bytes that a client sends, `now` in ms.
     fn client(&mut self, bytes: &[u8], now: u64) -> Result<(Outcome, Option<Sent>), AgentFault>
         requires { now ≤ 2 ^ 60 }
-        ensures { Called result self.old self.new }
+        ensures { Called result (stage_of self.old) (stage_of self.new) }
     {
         self.agent.client(bytes, now)
     }
@@ -110,7 +119,7 @@ impl<D: Disk> Member<D> {
     /// Takes a snapshot action, `now` in ms.
     fn action(&mut self, now: u64) -> Result<Outcome, AgentFault>
         requires { now ≤ 2 ^ 60 }
-        ensures { Called result self.old self.new }
+        ensures { Called result (stage_of self.old) (stage_of self.new) }
     {
         self.agent.action(now)
     }

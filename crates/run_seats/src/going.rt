@@ -1,6 +1,7 @@
 // A running member whose phase goes on over its calls.
 ghost use Rattle.cluster_backup.specs.Spelling.{HasSpelling};
 ghost use Rattle.run_phases.specs.Frees.{IsFree, IsGoing};
+ghost use Rattle.run_seats.specs.Seen.{stage_of};
 
 use crate::calls::Call;
 use crate::idle::Idle;
@@ -28,12 +29,13 @@ pub(crate) struct Going<D: Disk> {
 impl<D: Disk> Model for Going<D> {
     ghost use Rattle.std.specs.Prelude.{ℕ};
     ghost use Rattle.run_seats.specs.Going.{GoesOn};
+    ghost use Rattle.run_seats.specs.Seen.{stage_of};
 
     ghost Value = { ℕ };
 
-    ghost view = { λ m. m.member.commit };
+    ghost view = { λ m. m.member.seen.core.values.rest.commit };
 
-    ghost invariant = { λ m. GoesOn m.member m.phase };
+    ghost invariant = { λ m. GoesOn (stage_of m.member) m.phase };
 }
 
 /// Feeds a phase what is committed. One that is over ends, its records are sent, and another begins.
@@ -43,8 +45,8 @@ fn feed<R: Threads + Wait + Copy + Send + Sync + 'static, D: Disk>(
     member: Member<D>,
     phase: Free<NoGate>,
 ) -> Result<Going<D>, Failed<D>>
-    requires free { IsFree member phase }
-    requires going { IsGoing member phase.feeds }
+    requires free { IsFree (stage_of member) phase }
+    requires going { IsGoing (stage_of member) phase.feeds }
 {
     let mut member = member;
     let mut phase = phase;
@@ -65,8 +67,8 @@ fn end<R: Threads + Wait + Copy + Send + Sync + 'static, D: Disk>(
     member: Member<D>,
     phase: Free<NoGate>,
 ) -> Result<Idle<D>, Failed<D>>
-    requires free { IsFree member phase }
-    requires going { IsGoing member phase.feeds }
+    requires free { IsFree (stage_of member) phase }
+    requires going { IsGoing (stage_of member) phase.feeds }
 {
     let mut member = member;
     match member.end(rt, outside.alloc, phase) {

@@ -1,6 +1,7 @@
 // A running member between its phases.
 ghost use Rattle.std.specs.Prelude.{◌≡◌, []};
 ghost use Rattle.cluster_backup.specs.Spelling.{HasSpelling};
+ghost use Rattle.run_seats.specs.Seen.{stage_of};
 ghost use Rattle.service_phases.specs.Stages.{IsIdle};
 
 use crate::calls::Call;
@@ -30,13 +31,14 @@ pub(crate) struct Idle<D: Disk> {
 
 impl<D: Disk> Model for Idle<D> {
     ghost use Rattle.std.specs.Prelude.{◌≡◌, ℕ, []};
+    ghost use Rattle.run_seats.specs.Seen.{stage_of};
     ghost use Rattle.service_phases.specs.Stages.{IsIdle};
 
     ghost Value = { ℕ };
 
-    ghost view = { λ m. m.member.commit };
+    ghost view = { λ m. m.member.seen.core.values.rest.commit };
 
-    ghost invariant = { λ m. IsIdle m.member × (m.lanes ≡ []) };
+    ghost invariant = { λ m. IsIdle (stage_of m.member) × (m.lanes ≡ []) };
 }
 
 impl<D: Disk> Idle<D> {
@@ -60,7 +62,7 @@ impl<D: Disk> Idle<D> {
 
     /// The member and its lanes.
     fn into_parts(self) -> (Member<D>, Lanes<NoGate>)
-        ensures idle { IsIdle result.0 }
+        ensures idle { IsIdle (stage_of result.0) }
         ensures none { result.1 ≡ [] }
     {
         let Idle { member, lanes } = self;

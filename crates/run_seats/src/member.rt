@@ -1,5 +1,6 @@
 // A running member, as its phases and its calls ask for it.
 ghost use Rattle.std.specs.Prelude.{◌≡◌, IfOk};
+ghost use Rattle.run_seats.specs.Seen.{stage_of};
 ghost use Rattle.service_phases.specs.Stages.{IsIdle};
 
 use crate::site::{MemberId, Site};
@@ -26,20 +27,29 @@ pub struct Shown<'a> {
     pub sets: &'a [SnapshotAt],
 }
 
-/// A running member. Contracts see where it stands in its phases, and nothing else of it, so that a caller's check doesn't
-/// go through all that an agent has.
+/// A running member. Contracts see of it what stands to the world of a run.
 #[derive(Drop)]
 pub(crate) struct Member<D: Disk> {
     pub(crate) agent: Box<Agent<D>>,
 }
 
 impl<D: Disk> Model for Member<D> {
-    ghost use Rattle.consensus_agent.specs.Phases.{stage};
-    ghost use Rattle.service_phases.specs.Stages.{Stage};
+    ghost use Rattle.run_seats.specs.Seen.{MemberSeen};
 
-    ghost Value = { Stage };
+    ghost Value = { MemberSeen D };
 
-    ghost view = { λ m. stage m.agent.value.services m.agent.value.module m.agent.value.core m.agent.value.over };
+    ghost view = { λ m. record {
+      seen = record {
+        core = m.agent.value.core;
+        disk = m.agent.value.disk;
+        module_held = m.agent.value.module;
+        lending = m.agent.value.services;
+        role = m.agent.value.role;
+        base = m.agent.value.base;
+        over = m.agent.value.over;
+      };
+      whole = m.agent.value.is_whole;
+    } };
 }
 
 impl<D: Disk> Member<D> {
@@ -50,7 +60,7 @@ impl<D: Disk> Member<D> {
         disk: D,
         now: u64,
     ) -> Result<Member<D>, (D, MemberFault)>
-        ensures { IfOk result IsIdle }
+        ensures { IfOk result (λ m. IsIdle (stage_of m)) }
     {
         let MemberId { member, members } = id;
         match Agent::mount(site.alloc, member, members, site.kinds(), disk, now) {
@@ -104,7 +114,7 @@ impl<D: Disk> Member<D> {
 
     /// Lets so many changing calls of its disk pass.
     pub(crate) fn fuse(&mut self, calls: u64)
-        ensures { self.new ≡ self.old }
+        ensures { stage_of self.new ≡ stage_of self.old }
     {
         self.agent.fuse(calls);
     }

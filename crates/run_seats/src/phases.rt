@@ -1,6 +1,7 @@
 // The phases of a running member.
 ghost use Rattle.std.specs.Prelude.{◌≡◌, [], true, false, OnOk, IfOk};
 ghost use Rattle.run_phases.specs.Frees.{IsFree, IsGoing};
+ghost use Rattle.run_seats.specs.Seen.{stage_of};
 ghost use Rattle.service_phases.specs.Feeds.{HasCommit};
 ghost use Rattle.service_phases.specs.Pairs.{Each};
 ghost use Rattle.service_phases.specs.Stages.{IsIdle};
@@ -24,9 +25,9 @@ impl<D: Disk> Member<D> {
         alloc: Global,
         lanes: &mut Lanes<NoGate>,
     ) -> Result<List<Sent>, AgentFault>
-        requires idle { IsIdle self.old }
+        requires idle { IsIdle (stage_of self.old) }
         requires none { lanes.old ≡ [] }
-        ensures idle { OnOk result (IsIdle self.new) }
+        ensures idle { OnOk result (IsIdle (stage_of self.new)) }
         ensures none { lanes.new ≡ [] }
     {
         run_phase(rt, alloc, &mut self.agent, lanes)
@@ -38,11 +39,11 @@ impl<D: Disk> Member<D> {
         rt: &R,
         lanes: Lanes<NoGate>,
     ) -> Result<Free<NoGate>, NoMemory>
-        requires idle { IsIdle self.old }
+        requires idle { IsIdle (stage_of self.old) }
         requires none { lanes ≡ [] }
-        ensures free { IfOk result (λ p. IsFree self.new p) }
-        ensures going { IfOk result (λ p. IsGoing self.new p.feeds) }
-        ensures on { IfOk result (λ _. self.new.over ≡ false) }
+        ensures free { IfOk result (λ p. IsFree (stage_of self.new) p) }
+        ensures going { IfOk result (λ p. IsGoing (stage_of self.new) p.feeds) }
+        ensures on { IfOk result (λ _. self.new.seen.over ≡ false) }
     {
         free_begin(rt, &mut self.agent, lanes)
     }
@@ -54,13 +55,13 @@ impl<D: Disk> Member<D> {
         alloc: Global,
         phase: &mut Free<NoGate>,
     ) -> Result<Fed, AgentFault>
-        requires free { IsFree self.old phase.old }
-        requires going { IsGoing self.old phase.old.feeds }
-        ensures free { IsFree self.new phase.new }
-        ensures going { OnOk result (IsGoing self.new phase.new.feeds) }
-        ensures published { OnOk result (Each (HasCommit self.new.commit) phase.new.feeds) }
-        ensures over { OnOk result (self.new.over ≡ self.old.over) }
-        ensures goes_on { IfOk result (λ fed. self.new.over ≡ true → fed ≡ Fed.Over) }
+        requires free { IsFree (stage_of self.old) phase.old }
+        requires going { IsGoing (stage_of self.old) phase.old.feeds }
+        ensures free { IsFree (stage_of self.new) phase.new }
+        ensures going { OnOk result (IsGoing (stage_of self.new) phase.new.feeds) }
+        ensures published { OnOk result (Each (HasCommit self.new.seen.core.values.rest.commit) phase.new.feeds) }
+        ensures over { OnOk result (self.new.seen.over ≡ self.old.seen.over) }
+        ensures goes_on { IfOk result (λ fed. self.new.seen.over ≡ true → fed ≡ Fed.Over) }
     {
         free_feed(rt, alloc, &mut self.agent, phase)
     }
@@ -72,9 +73,9 @@ impl<D: Disk> Member<D> {
         alloc: Global,
         phase: Free<NoGate>,
     ) -> Result<(List<Sent>, Lanes<NoGate>), AgentFault>
-        requires free { IsFree self.old phase }
-        requires going { IsGoing self.old phase.feeds }
-        ensures idle { OnOk result (IsIdle self.new) }
+        requires free { IsFree (stage_of self.old) phase }
+        requires going { IsGoing (stage_of self.old) phase.feeds }
+        ensures idle { OnOk result (IsIdle (stage_of self.new)) }
         ensures none { IfOk result (λ p. p.1 ≡ []) }
     {
         free_end(rt, alloc, &mut self.agent, phase)
@@ -86,7 +87,7 @@ impl<D: Disk> Member<D> {
         rt: &R,
         phase: Free<NoGate>,
     )
-        requires { IsFree self.old phase }
+        requires { IsFree (stage_of self.old) phase }
     {
         free_drop(rt, &mut self.agent, phase);
     }

@@ -7,5 +7,8 @@ invariant-loop-service g l = record {
   core : l.agent.core ≡ l.initial.agent.core;
   own : l.agent.module ≡ l.initial.agent.module;
   services : l.agent.services ≡ l.initial.agent.services;
+  base : l.agent.base ≡ l.initial.agent.base;
+  role : l.agent.role ≡ l.initial.agent.role;
+  whole : l.agent.is_whole ≡ l.initial.agent.is_whole;
   over : l.agent.over ≡ l.initial.agent.over;
 }
