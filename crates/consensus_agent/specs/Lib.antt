@@ -10,3 +10,4 @@ pub mod Sound
 pub mod Accepted
 pub mod Faults
 pub mod Copies
+pub mod Quiet
