@@ -8,6 +8,7 @@ pub mod Entries
 pub mod Found
 pub mod Orders
 pub mod Phasing
+pub mod Quiets
 pub mod Ranges
 pub mod Reading
 pub mod Refusals

@@ -11,3 +11,4 @@ pub mod Sound
 pub mod Accepted
 pub mod Faults
 pub mod Copies
+pub mod Quiet

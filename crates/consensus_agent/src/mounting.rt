@@ -1,8 +1,17 @@
 // How a member starts from its disk.
-ghost use Rattle.std.specs.Prelude.{◌≡◌, true, false, ◌<◌, ◌≤◌, ◌^◌, pos, negsuc, ◌≤ℤ◌, [], length, ◌∷◌, ◌++◌, unwrap_or, IsTrue, IfOk, OnOk, MatchResult};
+ghost use Rattle.std.specs.Prelude.{◌≡◌, true, false, ◌<◌, ◌≤◌, ◌^◌, pos, negsuc, ◌≤ℤ◌, [], length, ◌∷◌, ◌++◌, unwrap_or, IsTrue, IfOk, IfErr, OnOk, MatchOption, MatchResult, Ok, Err, drop};
+ghost use Rattle.cl_base.specs.Counts.{Rose};
+ghost use Rattle.cl_base.specs.Disk.{OthersStay};
+ghost use Rattle.cl_base.specs.Runs.{EachImage};
+ghost use Rattle.entry_log.specs.Shape.{shape_of};
+ghost use Rattle.module_state.specs.Module.{first_module};
+ghost use Rattle.recording_log.specs.Sets.{HasNoSet};
+ghost use Rattle.recording_log.specs.declared.entry.SnapshotAt.{SnapshotAt};
+ghost use Rattle.node_state.specs.Node.{mount_calls};
 ghost use Rattle.log_segment.specs.Held.{IsHeld};
 ghost use Rattle.member_disk.specs.Changes.{HasSome};
-ghost use Rattle.member_disk.specs.Kept.{Kept, EachStands, IsSettled, ReadsLike};
+ghost use Rattle.member_disk.specs.Kept.{Kept, EachStands, IsSettled, Means, ReadsLike};
+ghost use Rattle.member_disk.specs.Parts.{MountEnds};
 ghost use Rattle.consensus_agent.specs.Disks.{HasTerms, Looked};
 ghost use Rattle.snapshot_pieces.specs.Pieces.{IsOrigin};
 ghost use Rattle.service_phases.specs.Pairs.{Each};
@@ -10,13 +19,16 @@ ghost use Rattle.service_phases.specs.Phases.{IsAt};
 ghost use Rattle.service_phases.specs.Stages.{IsIdle};
 ghost use Rattle.consensus_agent.specs.Phases.{stage};
 ghost use Rattle.consensus_core.specs.Fit.{IsTerm, started};
+ghost use Rattle.consensus_agent.specs.Quiet.{Quiet, Failed};
 ghost use Rattle.consensus_agent.specs.Sound.{HasAhead};
-ghost use Rattle.consensus_agent.specs.Starts.{IsNew, IsStart};
+ghost use Rattle.consensus_agent.specs.Copies.{IsNewest};
+ghost use Rattle.consensus_agent.specs.Starts.{IsNew, IsStart, IsFirst, ends_at, first_containers};
 
 use crate::agent::Agent;
 use cl_base::{Disk, Entry, MemberFault, NoMemory};
 use commit_counter::Role;
 use consensus_core::Core;
+use entry_log::LogIndex;
 use member_disk::{Durable, MemberDisk, SetEntry};
 use member_module::MemberModule;
 use module_state::ModuleState;
@@ -71,6 +83,8 @@ fn set_of<D: Disk>(disk: &mut MemberDisk<D>, service: i32) -> Result<SetEntry, M
     requires whole { IsTrue disk.old.whole }
     ensures kept { disk.new.kept ≡ disk.old.kept }
     ensures looked { Looked D.state D.tells D.is_honest disk.old disk.new }
+    ensures quiet { OnOk result (Quiet D.fault_count D.state D.tells disk.old disk.new) }
+    ensures failed { IfErr result (Failed D.fault_count D.state D.tells disk.old disk.new) }
     ensures whole { IsTrue disk.new.whole }
     ensures recording { IfOk result (λ e. e.recording < 1024) }
     ensures origin { IfOk result (λ e. IsOrigin (record { service = service; position = e.position; term = e.term })) }
@@ -82,15 +96,15 @@ fn set_of<D: Disk>(disk: &mut MemberDisk<D>, service: i32) -> Result<SetEntry, M
     disk.set_entry(service)
 }
 
-#[tactic(auto, using(crate::proofs::Phasing::each_push, crate::proofs::Phasing::begun_at))]
 /// The services before any entry.
 fn fresh_services(alloc: Global, kinds: &[Kind]) -> Result<Vec<Container>, NoMemory>
     requires { length kinds.now ≤ 3 }
-    ensures { IfOk result (λ cs. Each (IsAt 0) cs.items) }
+    ensures { IfOk result (λ cs. cs.items ≡ first_containers 0 kinds.now) }
 {
     let mut containers = Vec::new(alloc);
-    for (service, kind) in kinds.iter().enumerate() {
-        let container = Container::fresh(alloc, *kind, service as u8)?;
+    for kind in kinds {
+        let service = containers.len() as u8;
+        let container = Container::fresh(alloc, *kind, service)?;
         if containers.push(container).is_err() {
             return Err(NoMemory);
         }
@@ -103,7 +117,7 @@ fn fresh_services(alloc: Global, kinds: &[Kind]) -> Result<Vec<Container>, NoMem
 fn fresh(alloc: Global, kinds: &[Kind]) -> Result<Start, NoMemory>
     requires { length kinds.now ≤ 3 }
     ensures start { IfOk result IsStart }
-    ensures base { IfOk result (λ s. s.base ≡ 0) }
+    ensures first { IfOk result (IsFirst kinds.now) }
     ensures none { IfOk result (λ s. s.module.ahead.entries ≡ []) }
 {
     let containers = fresh_services(alloc, kinds)?;
@@ -115,7 +129,29 @@ fn fresh(alloc: Global, kinds: &[Kind]) -> Result<Start, NoMemory>
     })
 }
 
-#[tactic(auto, using(crate::proofs::Phasing::each_push, crate::proofs::Phasing::begun_at, crate::proofs::Disking::looked_none, crate::proofs::Disking::looked_more))]
+/// A service of the latest valid set of snapshots, which goes on at an entry.
+#[tactic(auto, using(crate::proofs::Phasing::begun_at))]
+fn restored_one<D: Disk>(
+    alloc: Global,
+    kind: Kind,
+    service: u8,
+    disk: &mut MemberDisk<D>,
+    entries: Option<u64>,
+) -> Result<Container, MemberFault>
+    requires low { service ≤ 2 }
+    requires whole { IsTrue disk.old.whole }
+    ensures at { IfOk result (IsAt (unwrap_or entries 0)) }
+    ensures kept { disk.new.kept ≡ disk.old.kept }
+    ensures looked { Looked D.state D.tells D.is_honest disk.old disk.new }
+    ensures quiet { OnOk result (Quiet D.fault_count D.state D.tells disk.old disk.new) }
+    ensures failed { IfErr result (Failed D.fault_count D.state D.tells disk.old disk.new) }
+    ensures whole { IsTrue disk.new.whole }
+{
+    let set = set_of(disk, service as i32)?;
+    let source = source_of(&set, service as i32, entries);
+    restore_service(alloc, kind, service, &source, set.pieces.as_slice())
+}
+
 /// The services of the latest valid set of snapshots, which go on at an entry.
 fn restored_services<D: Disk>(
     alloc: Global,
@@ -128,14 +164,14 @@ fn restored_services<D: Disk>(
     ensures services { IfOk result (λ cs. Each (IsAt (unwrap_or entries 0)) cs.items) }
     ensures kept { disk.new.kept ≡ disk.old.kept }
     ensures looked { Looked D.state D.tells D.is_honest disk.old disk.new }
+    ensures quiet { OnOk result (Quiet D.fault_count D.state D.tells disk.old disk.new) }
+    ensures failed { IfErr result (Failed D.fault_count D.state D.tells disk.old disk.new) }
     ensures whole { IsTrue disk.new.whole }
 {
     let mut containers = Vec::new(alloc);
-    for (service, kind) in kinds.iter().enumerate() {
-        let set = set_of(disk, service as i32)?;
-        let source = source_of(&set, service as i32, entries);
-        let pieces = set.pieces.as_slice();
-        let container = restore_service(alloc, *kind, service as u8, &source, pieces)?;
+    for kind in kinds {
+        let service = containers.len() as u8;
+        let container = restored_one(alloc, *kind, service, disk, entries)?;
         if containers.push(container).is_err() {
             return Err(MemberFault::NoMemory);
         }
@@ -143,8 +179,41 @@ fn restored_services<D: Disk>(
     Ok(containers)
 }
 
+/// The module of the latest valid set of snapshots, which goes on at an entry.
+fn restored_state<D: Disk>(
+    alloc: Global,
+    services: u8,
+    disk: &mut MemberDisk<D>,
+    entries: Option<u64>,
+) -> Result<ModuleState, MemberFault>
+    requires few { services ≤ 3 }
+    requires whole { IsTrue disk.old.whole }
+    ensures kept { disk.new.kept ≡ disk.old.kept }
+    ensures looked { Looked D.state D.tells D.is_honest disk.old disk.new }
+    ensures quiet { OnOk result (Quiet D.fault_count D.state D.tells disk.old disk.new) }
+    ensures failed { IfErr result (Failed D.fault_count D.state D.tells disk.old disk.new) }
+    ensures whole { IsTrue disk.new.whole }
+{
+    let set = set_of(disk, -1)?;
+    let source = source_of(&set, -1, entries);
+    restore_module(alloc, services, &source, set.pieces.as_slice())
+}
+
+/// How many entries of the log end at a place, where one ends right there.
+fn entries_ending(index: &LogIndex, place: u64) -> Option<u64>
+    ensures count { unwrap_or result 0 ≡ ends_at place index.now }
+    ensures within { unwrap_or result 0 ≤ length index.now }
+{
+    let count = index.entries_to(place);
+    if index.end_at(count) == place && count > 0 {
+        Some(count)
+    } else {
+        None
+    }
+}
+
 /// The services and the module of the latest valid set of snapshots.
-#[tactic(auto, using(crate::proofs::Entries::length_shape, crate::proofs::Sounding::few, crate::proofs::Starting::new_first, crate::proofs::Disking::looked_more))]
+#[tactic(auto, using(crate::proofs::Entries::length_shape, crate::proofs::Sounding::few, crate::proofs::Starting::new_first))]
 fn restored<D: Disk>(
     alloc: Global,
     kinds: &[Kind],
@@ -154,20 +223,19 @@ fn restored<D: Disk>(
     requires few { length kinds.now ≤ 3 }
     requires whole { IsTrue disk.old.whole }
     ensures start { IfOk result IsStart }
+    ensures base { IfOk result (λ s. s.base ≡ ends_at latest.position (shape_of disk.old.kept.log)) }
     ensures within { IfOk result (λ s. s.base ≤ length disk.old.kept.log) }
     ensures none { IfOk result (λ s. s.module.ahead.entries ≡ []) }
     ensures kept { disk.new.kept ≡ disk.old.kept }
     ensures looked { Looked D.state D.tells D.is_honest disk.old disk.new }
+    ensures quiet { OnOk result (Quiet D.fault_count D.state D.tells disk.old disk.new) }
+    ensures failed { IfErr result (Failed D.fault_count D.state D.tells disk.old disk.new) }
     ensures whole { IsTrue disk.new.whole }
 {
-    let count = disk.index().entries_to(latest.position);
-    let ends = count > 0 && disk.index().end_at(count) == latest.position;
-    let entries = if ends { Some(count) } else { None };
+    let entries = entries_ending(disk.index(), latest.position);
     let base = entries.unwrap_or(0);
     let containers = restored_services(alloc, kinds, disk, entries)?;
-    let set = set_of(disk, -1)?;
-    let source = source_of(&set, -1, entries);
-    let state = restore_module(alloc, kinds.len() as u8, &source, set.pieces.as_slice())?;
+    let state = restored_state(alloc, kinds.len() as u8, disk, entries)?;
     Ok(Start {
         base,
         module: MemberModule::new(alloc, state, base),
@@ -175,13 +243,54 @@ fn restored<D: Disk>(
     })
 }
 
+/// The latest valid set.
+fn latest_of(durable: &Durable) -> Option<SnapshotAt>
+    ensures { MatchOption result (HasNoSet durable.now.services durable.now.entries) (IsNewest durable.now.services durable.now.entries) }
+{
+    let sets = durable.sets();
+    if sets.is_empty() {
+        return None;
+    }
+    Some(sets[sets.len() - 1])
+}
+
+/// The services and the module of the latest valid set of snapshots, or before any entry where there is none.
+fn first_of<D: Disk>(
+    alloc: Global,
+    kinds: &[Kind],
+    disk: &mut MemberDisk<D>,
+) -> Result<Start, MemberFault>
+    requires few { length kinds.now ≤ 3 }
+    requires whole { IsTrue disk.old.whole }
+    ensures start { IfOk result IsStart }
+    ensures first { HasNoSet disk.old.kept.services disk.old.kept.entries → IfOk result (IsFirst kinds.now) }
+    ensures base { (set : SnapshotAt) → IsNewest disk.old.kept.services disk.old.kept.entries set → IfOk result (λ s. s.base ≡ ends_at set.position (shape_of disk.old.kept.log)) }
+    ensures within { IfOk result (λ s. s.base ≤ length disk.old.kept.log) }
+    ensures none { IfOk result (λ s. s.module.ahead.entries ≡ []) }
+    ensures kept { disk.new.kept ≡ disk.old.kept }
+    ensures looked { Looked D.state D.tells D.is_honest disk.old disk.new }
+    ensures quiet { OnOk result (Quiet D.fault_count D.state D.tells disk.old disk.new) }
+    ensures failed { IfErr result (Failed D.fault_count D.state D.tells disk.old disk.new) }
+    ensures whole { IsTrue disk.new.whole }
+{
+    match latest_of(disk.durable()) {
+        Some(latest) => restored(alloc, kinds, disk, latest),
+        None => match fresh(alloc, kinds) {
+            Ok(start) => Ok(start),
+            Err(NoMemory) => Err(MemberFault::NoMemory),
+        },
+    }
+}
+
 /// The module has one more entry ahead.
 #[tactic(auto, using(crate::proofs::Starting::new_more))]
 fn take_one(module: &mut MemberModule, entry: Entry) -> Result<(), MemberFault>
     requires { IsNew module.old }
+    ensures state { module.new.state ≡ module.old.state }
     ensures consumed { module.new.consumed ≡ module.old.consumed }
     ensures entries { OnOk result (module.new.ahead.entries ≡ module.old.ahead.entries ++ entry ∷ []) }
     ensures fresh { OnOk result (IsNew module.new) }
+    ensures err { IfErr result (λ e. e ≡ MemberFault.NoMemory) }
 {
     match module.append(entry) {
         Ok(()) => Ok(()),
@@ -199,12 +308,16 @@ fn read_ahead<D: Disk>(
     requires within { module.old.consumed ≤ length disk.old.kept.log }
     requires none { module.old.ahead.entries ≡ [] }
     requires fresh { IsNew module.old }
+    ensures state { module.new.state ≡ module.old.state }
     ensures consumed { module.new.consumed ≡ module.old.consumed }
     ensures fresh { OnOk result (IsNew module.new) }
     ensures kept { disk.new.kept ≡ disk.old.kept }
     ensures looked { Looked D.state D.tells D.is_honest disk.old disk.new }
+    ensures quiet { OnOk result (Quiet D.fault_count D.state D.tells disk.old disk.new) }
+    ensures failed { IfErr result (Failed D.fault_count D.state D.tells disk.old disk.new) }
     ensures whole { IsTrue disk.new.whole }
     ensures ahead { OnOk result (HasAhead module.new disk.new.kept.log) }
+    ensures exact { IsTrue (D.tells disk.old.disk) → OnOk result (module.new.ahead.entries ≡ drop module.old.consumed disk.old.kept.log) }
 {
     let entries = disk.index().entries();
     for index in module.consumed()..entries {
@@ -215,7 +328,7 @@ fn read_ahead<D: Disk>(
 }
 
 /// What a member starts from, with the log's entries past the snapshot.
-#[tactic(auto, using(crate::proofs::Disking::looked_none, crate::proofs::Disking::looked_more))]
+#[tactic(auto, using(crate::proofs::Disking::looked_more))]
 fn begin<D: Disk>(
     alloc: Global,
     kinds: &[Kind],
@@ -224,23 +337,18 @@ fn begin<D: Disk>(
     requires few { length kinds.now ≤ 3 }
     requires whole { IsTrue disk.old.whole }
     ensures start { IfOk result IsStart }
+    ensures first { HasNoSet disk.old.kept.services disk.old.kept.entries → IfOk result (IsFirst kinds.now) }
+    ensures base { (set : SnapshotAt) → IsNewest disk.old.kept.services disk.old.kept.entries set → IfOk result (λ s. s.base ≡ ends_at set.position (shape_of disk.old.kept.log)) }
     ensures within { IfOk result (λ s. s.base ≤ length disk.new.kept.log) }
     ensures ahead { IfOk result (λ s. HasAhead s.module disk.new.kept.log) }
+    ensures exact { IsTrue (D.tells disk.old.disk) → IfOk result (λ s. s.module.ahead.entries ≡ drop s.base disk.old.kept.log) }
     ensures kept { disk.new.kept ≡ disk.old.kept }
     ensures looked { Looked D.state D.tells D.is_honest disk.old disk.new }
+    ensures quiet { OnOk result (Quiet D.fault_count D.state D.tells disk.old disk.new) }
+    ensures failed { IfErr result (Failed D.fault_count D.state D.tells disk.old disk.new) }
     ensures whole { IsTrue disk.new.whole }
 {
-    let latest = match disk.durable().sets().last() {
-        Some(latest) => Some(*latest),
-        None => None,
-    };
-    let mut start = match latest {
-        Some(latest) => restored(alloc, kinds, disk, latest)?,
-        None => match fresh(alloc, kinds) {
-            Ok(start) => start,
-            Err(NoMemory) => return Err(MemberFault::NoMemory),
-        },
-    };
+    let mut start = first_of(alloc, kinds, disk)?;
     read_ahead(disk, &mut start.module)?;
     Ok(start)
 }
@@ -289,6 +397,25 @@ impl<D: Disk> Agent<D> {
         ensures idle { IfOk result (λ a. IsIdle (stage a.services a.module a.core a.over)) }
         ensures based { IfOk result (λ a. a.module.consumed ≡ a.base) }
         ensures whole { IfOk result (λ a. IsTrue a.is_whole) }
+
+        // Without a valid set of snapshots the services and the module are before any entry. With one they go on past as
+        // many entries as end at its position, where one ends right there.
+        ensures first_base { IfOk result (λ a. HasNoSet a.disk.kept.services a.disk.kept.entries → a.base ≡ 0) }
+        ensures first_services { IfOk result (λ a. HasNoSet a.disk.kept.services a.disk.kept.entries → a.services.kept ≡ first_containers 0 kinds.now) }
+        ensures first_module { IfOk result (λ a. HasNoSet a.disk.kept.services a.disk.kept.entries → a.module.state ≡ first_module (length kinds.now)) }
+        ensures base { IfOk result (λ a. (set : SnapshotAt) → IsNewest a.disk.kept.services a.disk.kept.entries set → a.base ≡ ends_at set.position (shape_of a.disk.kept.log)) }
+        ensures exact { IsTrue (D.tells disk) → IfOk result (λ a. a.module.ahead.entries ≡ drop a.base a.disk.kept.log) }
+
+        // Past the mount of the disk it only looks. So whatever the answer, each image means what was kept, and a fuse ends
+        // it as it ends that mount.
+        ensures others { IsTrue (D.tells disk) → MatchResult result (λ a. OthersStay 0 (D.state disk).files (D.state a.disk.disk).files) (λ e. OthersStay 0 (D.state disk).files (D.state e.0).files) }
+        ensures means { IsTrue (D.is_honest disk) → IsSettled (D.state disk).files → (kept : Kept) → ReadsLike kept (D.state disk).files
+            → MatchResult result (λ a. EachImage (Means kept) (D.state a.disk.disk).files) (λ e. EachImage (Means kept) (D.state e.0).files) }
+        ensures fuse { IsTrue (D.is_honest disk) → IsSettled (D.state disk).files → (kept : Kept) → ReadsLike kept (D.state disk).files
+            → MatchResult result (λ a. MountEnds {T = Unit {0}} (mount_calls ((D.state disk).files 0).reads) kept (D.state disk) (D.state a.disk.disk) (Ok tt))
+            (λ e. MountEnds {T = Unit {0}} (mount_calls ((D.state disk).files 0).reads) kept (D.state disk) (D.state e.0) (Err e.1)) }
+        ensures cause { MatchResult result (λ a. D.fault_count disk ≤ D.fault_count a.disk.disk)
+            (λ e. (D.fault_count disk ≤ D.fault_count e.0) × (e.1 ≡ MemberFault.Device → Rose (D.fault_count disk) (D.fault_count e.0))) }
     {
         let count = kinds.len() as u8;
         let mut disk = MemberDisk::mount(alloc, disk, count)?;

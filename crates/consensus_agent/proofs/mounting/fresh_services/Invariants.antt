@@ -1,6 +1,9 @@
-use Rattle.service_phases.specs.Pairs.{Each}
-use Rattle.service_phases.specs.Phases.{IsAt}
+use Rattle.std.proofs.Common.{◌≡◌, length, take}
+use Rattle.consensus_agent.specs.Starts.{first_containers}
 use Rattle.consensus_agent.proofs.mounting.fresh_services.Given as goal
 
-abbrev pub invariant-loop-service : goal.invariant-loop-service
-invariant-loop-service l = Each (IsAt 0) l.containers.items
+abbrev pub invariant-loop-kind : goal.invariant-loop-kind
+invariant-loop-kind l = record {
+  are : l.containers.items ≡ first_containers 0 (take l.kind-index l.kinds);
+  many : length l.containers.items ≡ l.kind-index;
+}

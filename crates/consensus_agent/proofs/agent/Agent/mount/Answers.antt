@@ -1,8 +1,13 @@
-use Rattle.std.proofs.Common.{ap, sym, subst, IsTrue, arith}
+use Rattle.std.proofs.Common.{◌≡◌, ◌∙◌, ap, sym, subst, IsTrue, arith}
+use Rattle.recording_log.specs.Sets.{HasNoSet}
+use Rattle.service_phases.specs.Phases.{Lending}
+use Rattle.cl_base.specs.Runs.{EachImage}
 use Rattle.log_segment.specs.Held.{AreRanged}
-use Rattle.member_disk.specs.Kept.{Kept}
+use Rattle.member_disk.specs.Kept.{Kept, Means}
+use Rattle.node_state.specs.Node.{mount_calls}
 use Rattle.consensus_agent.specs.Disks.{HasTerms}
 use Rattle.consensus_agent.proofs.Disking.{each_looked}
+use Rattle.consensus_agent.proofs.Quiets.{ends_quiet, means_at_end, means_looked}
 use Rattle.consensus_agent.proofs.Sounding.{mounted_sound}
 use Rattle.consensus_agent.proofs.agent.Agent.mount.Goals as goal
 
@@ -29,3 +34,34 @@ returns-in-Ok-clause-settled g c honest settled =
 
 pub returns-in-Ok-clause-terms : goal.returns-in-Ok-clause-terms
 returns-in-Ok-clause-terms g c = subst (λ (k : Kept). HasTerms k) (sym c.begin.ensures.kept) c.in_ok-disk.ensures.terms
+
+pub returns-in-Ok-clause-first_base : goal.returns-in-Ok-clause-first_base
+returns-in-Ok-clause-first_base g c none =
+    (c.in-Ok.ensures.first (subst (λ (k : Kept). HasNoSet k.services k.entries) c.begin.ensures.kept none)).base
+
+pub returns-in-Ok-clause-first_services : goal.returns-in-Ok-clause-first_services
+returns-in-Ok-clause-first_services g c none =
+    ap (λ (l : Lending). l.kept) c.new.ensures ∙ (c.in-Ok.ensures.first (subst (λ (k : Kept). HasNoSet k.services k.entries) c.begin.ensures.kept none)).services
+
+pub returns-in-Ok-clause-first_module : goal.returns-in-Ok-clause-first_module
+returns-in-Ok-clause-first_module g c none =
+    (c.in-Ok.ensures.first (subst (λ (k : Kept). HasNoSet k.services k.entries) c.begin.ensures.kept none)).state
+
+pub returns-in-Ok-clause-means : goal.returns-in-Ok-clause-means
+returns-in-Ok-clause-means g c honest settled kept reads =
+    let there = subst IsTrue (sym c.in_ok-disk.ensures.honest) honest in
+    means_looked g.D.Disk.state g.D.Disk.tells g.D.Disk.is_honest kept c.in_ok-disk.disk c.begin.new.disk c.begin.ensures.looked (g.met.D.Disk.honest_tells c.in_ok-disk.disk.disk there)
+    (means_at_end g.D.Disk.state g.D.Disk.moment g.D.Disk.left_since (Means kept) c.args.disk c.in_ok-disk.disk.disk (λ t x le image. g.met.D.Disk.counts_now c.in_ok-disk.disk.disk t x there le image) (c.in_ok-disk.ensures.run honest settled kept reads))
+
+pub returns-in-Ok-clause-fuse : goal.returns-in-Ok-clause-fuse
+returns-in-Ok-clause-fuse g c honest settled kept reads =
+    let there = subst IsTrue (sym c.in_ok-disk.ensures.honest) honest in
+    ends_quiet g.D.Disk.fault_count g.D.Disk.state g.D.Disk.tells (mount_calls ((g.D.Disk.state c.args.disk).files 0).reads) kept (g.D.Disk.state c.args.disk) c.in_ok-disk.disk c.begin.new.disk
+    (g.met.D.Disk.honest_tells c.in_ok-disk.disk.disk there) (c.in_ok-disk.ensures.fuse honest settled kept reads) c.in-Ok.ensures.quiet
+
+pub returns-in-Err-clause-means : goal.returns-in-Err-clause-means
+returns-in-Err-clause-means g c honest settled kept reads =
+    let there = subst IsTrue (sym c.in_ok-disk.ensures.honest) honest in
+    subst (λ d. EachImage (Means kept) (g.D.Disk.state d).files) (sym c.into_disk.ensures)
+    (means_looked g.D.Disk.state g.D.Disk.tells g.D.Disk.is_honest kept c.in_ok-disk.disk c.begin.new.disk c.begin.ensures.looked (g.met.D.Disk.honest_tells c.in_ok-disk.disk.disk there)
+    (means_at_end g.D.Disk.state g.D.Disk.moment g.D.Disk.left_since (Means kept) c.args.disk c.in_ok-disk.disk.disk (λ t x le image. g.met.D.Disk.counts_now c.in_ok-disk.disk.disk t x there le image) (c.in_ok-disk.ensures.run honest settled kept reads)))
