@@ -1,0 +1,71 @@
+-- One member alone in a run: what the driver has of it and of what all share, and what is of this member alone in the world.
+use Rattle.std.specs.Prelude.{◌≡◌, ◌<◌, ℕ, List, length, set, Option, Some, None}
+use Rattle.cl_base.specs.Disk.{DiskState}
+use Rattle.entry_log.specs.Log.{Log}
+use Rattle.egress.specs.Streams.{StreamSeen}
+use Rattle.network.specs.Net.{NetSeen, coming, first_of}
+use Rattle.sbe_consensus.specs.declared.packet.Outgoing.{Outgoing}
+use Rattle.service_api.specs.declared.shipped.Kind.{Kind}
+use Rattle.run_world.specs.RunWorld.{RunWorld, Act, Passes, Hands, Duty, Asks, Hears, Starts, Stops, Fails, Invalidates, Fuses, Begins, Takes, Closes, Writes, Sends, Cuts, Heals, Loses, Replays, seat}
+use Rattle.run_orders.specs.Stands.{AreRecords, IsSeat, RunSeen, SeatSeen}
+
+-- ---- what the driver has of one member
+
+-- the moment in ms, the member, the network, what was sent to clients by stream, and the printed log
+pub record OneSeen (D : Type 0) : Type 0 where
+  pub now : ℕ
+  pub seat : SeatSeen D
+  pub net : NetSeen
+  pub streams : List StreamSeen
+  pub printed : Log
+
+-- the driver, as it is seen with this one of its members
+abbrev pub one_of : {D : Type 0} → SeatSeen D → RunSeen D → OneSeen D
+one_of y x = record { now = x.now; seat = y; net = x.net; streams = x.streams; printed = x.printed }
+
+-- the driver once member m and what all share are this
+abbrev pub with_one : {D : Type 0} → ℕ → OneSeen D → RunSeen D → RunSeen D
+with_one m o x = record { now = o.now; seats = set x.seats m o.seat; net = o.net; streams = o.streams; printed = o.printed }
+
+module _ {D : Type 0} (state : D → DiskState) (kinds : List Kind) where
+  -- what the driver has of member m, and of what all share, stands to the world
+  pub record StandsFor (m : ℕ) (o : OneSeen D) (w : RunWorld) : Type 0 where
+    pub within : m < length w.seats
+    pub now : o.now ≡ w.now
+    pub seat : IsSeat state kinds o.seat (seat w m)
+    pub net : o.net ≡ w.net
+    pub records : AreRecords o.streams w.records
+    pub printed : o.printed ≡ w.printed
+
+-- ---- what is of one member in the world
+
+-- no member but m is another in the second world
+abbrev pub Only : ℕ → RunWorld → RunWorld → Type 0
+Only m w v = v.seats ≡ set w.seats m (seat v m)
+
+-- the member that a packet is for
+abbrev pub receiver : Option (ℕ × Outgoing) → Option ℕ
+receiver None = None
+receiver (Some p) = Some p.1.to
+
+-- the member whose act it is; the network's is that of the member whose packet it hands on. The clock's and the links' are no member's
+abbrev pub actor : RunWorld → Act → Option ℕ
+actor w (Passes now) = None
+actor w (Hands f) = receiver (first_of (coming w.net))
+actor w (Duty m f) = Some m
+actor w (Asks m e fits f) = Some m
+actor w (Hears m session) = Some m
+actor w (Starts m f) = Some m
+actor w (Stops m) = Some m
+actor w (Fails m own) = Some m
+actor w (Invalidates m f) = Some m
+actor w (Fuses m calls choice) = Some m
+actor w (Begins m) = Some m
+actor w (Takes m k) = Some m
+actor w (Closes m) = Some m
+actor w (Writes m f) = Some m
+actor w (Sends m) = Some m
+actor w (Cuts from to) = None
+actor w (Heals from to) = None
+actor w (Loses from to) = None
+actor w (Replays from to latest) = None
