@@ -1,5 +1,5 @@
 -- One member alone in a run: which acts are of it alone, and how it stands to the world.
-use Rattle.std.proofs.Common.{◌≡◌, ◌⊎◌, inl, inr, ℕ, zero, suc, ◌<◌, ◌≤◌, Bool, true, false, ◌&&◌, List, [], ◌∷◌, length, map, set, Option, Some, None, refl, sym, ap, ◌∙◌, subst, arith, length-set, if◌then◌else◌}
+use Rattle.std.proofs.Common.{◌≡◌, ◌⊎◌, inl, inr, ℕ, zero, suc, ◌<◌, ◌≤◌, Bool, true, false, ◌&&◌, List, [], ◌∷◌, length, map, set, Option, Some, None, refl, sym, ap, ◌∙◌, subst, arith, length-set, set-set, if◌then◌else◌}
 use Rattle.std.specs.Prelude.{nat_lt, slice_get, slice_index_or}
 use Rattle.std.specs.List.{AllByRecursion}
 use Rattle.std.proofs.lemmas.List.{set-get_or}
@@ -26,11 +26,6 @@ use Rattle.member_gives.specs.One.{OneSeen, Only, StandsFor, actor, one_of, rece
 pub only-same : (m : ℕ) (w : RunWorld) → Only m w w
 only-same m w = sym (set-get_or w.seats m first_seat)
 
-put-twice : (xs : List Seat) (m : ℕ) (s t : Seat) → set (set xs m s) m t ≡ set xs m t
-put-twice [] m s t = refl
-put-twice (x ∷ xs) zero s t = refl
-put-twice (x ∷ xs) (suc m) s t = ap (λ (l : List Seat). x ∷ l) (put-twice xs m s t)
-
 put-there : (xs : List Seat) (m : ℕ) (s : Seat) → set xs m s ≡ set xs m (slice_index_or (set xs m s) m first_seat)
 put-there [] m s = refl
 put-there (x ∷ xs) zero s = refl
@@ -40,7 +35,7 @@ pub only-put : (m : ℕ) (w : RunWorld) (s : Seat) (ps : List Sent) → Only m w
 only-put m w s ps = put-there w.seats m s
 
 pub only-then : (m : ℕ) (w u v : RunWorld) → Only m w u → Only m u v → Only m w v
-only-then m w u v first second = second ∙ ap (λ (l : List Seat). set l m (seat v m)) first ∙ put-twice w.seats m (seat u m) (seat v m)
+only-then m w u v first second = second ∙ ap (λ (l : List Seat). set l m (seat v m)) first ∙ set-set w.seats m (seat u m) (seat v m)
 
 pub only-count : (m : ℕ) (w v : RunWorld) → Only m w v → length v.seats ≡ length w.seats
 only-count m w v only = ap length only ∙ length-set w.seats m (seat v m)

@@ -1,2 +1,5 @@
 pub mod Given
 pub mod Alone
+pub mod Listed
+pub mod Stored
+pub mod Growing
