@@ -135,13 +135,13 @@ phased-only kinds m w v p =
 
 -- ---- how one member stands to the world
 
-each-length : {A B : Type 0} (R : A → B → Type 0) (xs : List A) (ys : List B) → Each2 R xs ys → length xs ≡ length ys
+pub each-length : {A B : Type 0} (R : A → B → Type 0) (xs : List A) (ys : List B) → Each2 R xs ys → length xs ≡ length ys
 each-length R [] [] each = refl
 each-length R [] (y ∷ ys) each = absurd each
 each-length R (x ∷ xs) [] each = absurd each
 each-length R (x ∷ xs) (y ∷ ys) each = ap suc (each-length R xs ys each.1)
 
-each-at : {A B : Type 0} (R : A → B → Type 0) (xs : List A) (ys : List B) (i : ℕ) (x : A) (y : B) → Each2 R xs ys → i < length xs → R (slice_index_or xs i x) (slice_index_or ys i y)
+pub each-at : {A B : Type 0} (R : A → B → Type 0) (xs : List A) (ys : List B) (i : ℕ) (x : A) (y : B) → Each2 R xs ys → i < length xs → R (slice_index_or xs i x) (slice_index_or ys i y)
 each-at R [] ys i x y each l = absurd (omega (arith, l))
 each-at R (a ∷ xs) [] i x y each l = absurd each
 each-at R (a ∷ xs) (b ∷ ys) zero x y each l = each.0

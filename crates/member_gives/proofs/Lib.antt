@@ -3,3 +3,5 @@ pub mod Alone
 pub mod Listed
 pub mod Stored
 pub mod Growing
+pub mod Printing
+pub mod Printed

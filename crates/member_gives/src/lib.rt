@@ -1,19 +1,26 @@
 //! What a member gives to the outside, as what the world of a run takes; and one member alone in a run.
 #![tactic(auto)]
 
-ghost use Rattle.std.specs.Prelude.{◌≡◌, ◌<◌, ◌++◌, ℕ, List, Some, fold, length, map, slice_get};
+ghost use Rattle.std.specs.Prelude.{◌≡◌, ◌<◌, ◌≤◌, ◌++◌, ℕ, Bool, List, Some, fold, length, map, slice_get};
 ghost use Rattle.std.specs.List.{AllByRecursion};
+ghost use Rattle.cl_base.specs.declared.disk.Choice.{Choice};
+ghost use Rattle.entry_log.specs.Log.{Log};
 ghost use Rattle.egress.specs.Streams.{StreamSeen};
 ghost use Rattle.egress.specs.declared.sent.Sent.{Sent};
 ghost use Rattle.consensus_core.specs.Member.{Sent as Packet, spelled_packet};
 ghost use Rattle.network.specs.Net.{NetSeen};
 ghost use Rattle.service_phases.specs.Pairs.{Each2};
-ghost use Rattle.service_runs.specs.Hosts.{Output};
-ghost use Rattle.run_outside.specs.Gives.{with_packets, with_records};
+ghost use Rattle.service_runs.specs.Hosts.{Output, longer};
+ghost use Rattle.run_outside.specs.Gives.{newly, with_packets, with_records};
 ghost use Rattle.service_api.specs.declared.shipped.Kind.{Kind};
+ghost use Rattle.run_world.specs.Lawful.{Lawful};
 ghost use Rattle.run_world.specs.Rounds.{Phased};
-ghost use Rattle.run_world.specs.RunWorld.{Act, RunWorld, after_acts, all_sent, does};
-ghost use Rattle.run_orders.specs.Stands.{AreRecords, IsRecord, RunSeen, SeatSeen, Stands, more_sent};
+ghost use Rattle.run_world.specs.Seat.{Fate};
+ghost use Rattle.run_world.specs.RunWorld.{Act, RunWorld, after_acts, all_sent, committed, does, seat};
+ghost use Rattle.run_orders.specs.Stands.{AreRecords, EndedSeen, IsRecord, IsUp, RunSeen, SeatSeen, Stands, UpSeen, more_sent};
+ghost use Rattle.sbe_consensus.specs.declared.packet.Outgoing.{Outgoing};
+ghost use Rattle.member_rows.specs.Places.{running_seat};
+ghost use Rattle.member_rows.specs.Turns.{IsTurn, committed_seen};
 ghost use Rattle.member_gives.specs.One.{OneSeen, Only, StandsFor, actor, one_of, with_one};
 
 use cl_base::Disk;
@@ -27,6 +34,18 @@ pub fn packets_are_in_flight()
 pub fn records_stand_on_their_streams()
     ensures order { (records : List Sent) (streams : List StreamSeen) → with_records records streams ≡ fold more_sent streams records }
     ensures stand { (streams : List StreamSeen) (outputs more : List Output) (records : List Sent) → AreRecords streams outputs → Each2 IsRecord more records → AreRecords (with_records records streams) (outputs ++ more) }
+{}
+
+/// What a driver prints of a running member is what the world prints: nothing more while nothing happens, and after an act of that member all that it has committed; what of it isn't printed stands ahead of its module.
+pub fn what_is_printed_is_the_worlds<D: Disk>()
+    ensures still { (n : ℕ) (kinds : List Kind) (w : RunWorld) (m : ℕ) (u : UpSeen D) (going : Bool) (printed : Log) → n ≤ 5 → length kinds ≤ 3 → Lawful n kinds w → IsUp D.state kinds u going (seat w m) → printed ≡ w.printed
+        → printed ++ newly u.module_held.consumed u.module_held.ahead.entries u.core.values.rest.commit (length printed) ≡ longer w.printed (committed (seat w m).member) }
+    ensures world { (n : ℕ) (kinds : List Kind) (w : RunWorld) (a : Act) (m : ℕ) → n ≤ 5 → length kinds ≤ 3 → Lawful n kinds w → actor w a ≡ Some m → (does kinds w a).printed ≡ longer w.printed (committed (seat (does kinds w a) m).member) }
+    ensures act { (n : ℕ) (kinds : List Kind) (w : RunWorld) (a : Act) (m : ℕ) (u : UpSeen D) (going : Bool) (printed : Log) → n ≤ 5 → length kinds ≤ 3 → Lawful n kinds w → actor w a ≡ Some m → IsUp D.state kinds u going (seat (does kinds w a) m) → printed ≡ w.printed
+        → printed ++ newly u.module_held.consumed u.module_held.ahead.entries u.core.values.rest.commit (length printed) ≡ (does kinds w a).printed }
+    ensures turn { (n : ℕ) (kinds : List Kind) (x : RunSeen D) (w : RunWorld) (act : Fate → Act) (m : ℕ) (u : UpSeen D) (going : Bool) (choice : Choice) (ended : List EndedSeen) (out : List Outgoing) → n ≤ 5 → length kinds ≤ 3 → Lawful n kinds w
+        → ((f : Fate) → actor w (act f) ≡ Some m) → m < length w.seats → x.printed ≡ w.printed → IsTurn D.state kinds act m (running_seat choice ended u going) (committed_seen u) out x w
+        → x.printed ++ newly u.module_held.consumed u.module_held.ahead.entries u.core.values.rest.commit (length x.printed) ≡ longer x.printed (committed_seen u) }
 {}
 
 /// What a driver has of one member, and of what all share, stands to the world; and once it stands to a further world, in which no other member is another, the whole does.
