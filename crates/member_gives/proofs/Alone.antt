@@ -1,25 +1,26 @@
 -- One member alone in a run: which acts are of it alone, and how it stands to the world.
-use Rattle.std.proofs.Common.{◌≡◌, ◌⊎◌, inl, inr, ℕ, zero, suc, ◌<◌, ◌≤◌, Bool, true, false, ◌&&◌, List, [], ◌∷◌, length, map, set, Option, Some, None, refl, sym, ap, ◌∙◌, subst, arith, length-set, set-set, if◌then◌else◌}
+use Rattle.std.proofs.Common.{◌≡◌, ◌⊎◌, inl, inr, ℕ, zero, suc, ◌<◌, ◌≤◌, Bool, true, false, ◌&&◌, List, [], ◌∷◌, length, map, set, Option, Some, None, refl, sym, ap, ◌∙◌, subst, arith, length-set, set-set, get_or-set_same, if◌then◌else◌}
 use Rattle.std.specs.Prelude.{nat_lt, slice_get, slice_index_or}
 use Rattle.std.specs.List.{AllByRecursion}
 use Rattle.std.proofs.lemmas.List.{set-get_or}
 use Rattle.std.proofs.lemmas.Option.{get_or_from_slice_get, slice_get_cases, slice_get_within}
 use Rattle.cl_base.specs.Disk.{DiskState}
+use Rattle.entry_log.specs.Log.{Log}
 use Rattle.sbe_consensus.specs.Spelling.{packet_of}
 use Rattle.sbe_consensus.specs.declared.packet.Outgoing.{Outgoing}
 use Rattle.sbe_consensus.specs.declared.packet.Packet.{Packet}
 use Rattle.service_api.specs.declared.shipped.Kind.{Kind}
 use Rattle.consensus_core.specs.Member.{Sent, may_take, row_of_client, row_of_duty, sent_by}
-use Rattle.network.specs.Net.{coming, first_of, taken}
+use Rattle.network.specs.Net.{NetSeen, coming, first_of, taken}
 use Rattle.service_phases.specs.Pairs.{Each2}
-use Rattle.service_runs.specs.Hosts.{Rules, all_reach}
+use Rattle.service_runs.specs.Hosts.{Rules, all_reach, longer}
 use Rattle.one_log.specs.Ruled.{rules_of}
 use Rattle.world.proofs.Effects.{if-cases}
 use Rattle.run_world.specs.Seat.{Seat, Fate, Phase, Rests, Goes, Ends, first_seat, is_going, is_resting}
-use Rattle.run_world.specs.RunWorld.{RunWorld, Act, Passes, Hands, Duty, Asks, Hears, Starts, Stops, Fails, Invalidates, Fuses, Begins, Takes, Closes, Writes, Sends, Cuts, Heals, Loses, Replays, after_acts, closes, does, due_at, handed, is_down, is_free, is_up, may_ask, put, seat, sends, takes_packet, with_net, writes}
+use Rattle.run_world.specs.RunWorld.{RunWorld, Act, Passes, Hands, Duty, Asks, Hears, Starts, Stops, Fails, Invalidates, Fuses, Begins, Takes, Closes, Writes, Sends, Cuts, Heals, Loses, Replays, after_acts, all_sent, closes, committed, does, due_at, handed, is_down, is_free, is_up, may_ask, put, seat, sends, takes_packet, with_net, writes}
 use Rattle.run_world.specs.Rounds.{Phased, consume, phase_over, put_all}
 use Rattle.run_orders.specs.Stands.{IsSeat, RunSeen, SeatSeen, Stands}
-use Rattle.member_gives.specs.One.{OneSeen, Only, StandsFor, actor, one_of, receiver, with_one}
+use Rattle.member_gives.specs.One.{OneSeen, Only, StandsFor, actor, one_of, one_put, receiver, with_one}
 
 -- ---- what is of one member
 
@@ -182,3 +183,16 @@ module _ {D : Type 0} (state : D → DiskState) (kinds : List Kind) where
     records = one.records;
     printed = one.printed;
   }
+
+  pub stands-put : (w : RunWorld) (m : ℕ) (o : OneSeen D) (y : SeatSeen D) (s : Seat) (ps : List Sent) → StandsFor state kinds m o w → IsSeat state kinds y s → StandsFor state kinds m (one_put m y ps (committed s.member) o) (put m s ps w)
+  stands-put w m o y s ps one is =
+      let l = one.within in
+      let size = length-set w.seats m s in
+      record {
+        within = omega (arith, l, size);
+        now = one.now;
+        seat = subst (IsSeat state kinds y) (sym (get_or-set_same w.seats m s first_seat l)) is;
+        net = ap (λ (net : NetSeen). all_sent m ps net) one.net;
+        records = one.records;
+        printed = ap (λ (log : Log). longer log (committed s.member)) one.printed;
+      }

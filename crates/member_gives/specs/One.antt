@@ -1,12 +1,14 @@
 -- One member alone in a run: what the driver has of it and of what all share, and what is of this member alone in the world.
-use Rattle.std.specs.Prelude.{◌≡◌, ◌<◌, ℕ, List, length, set, Option, Some, None}
+use Rattle.std.specs.Prelude.{◌≡◌, ◌<◌, ℕ, Bool, true, false, List, length, set, Option, Some, None}
 use Rattle.cl_base.specs.Disk.{DiskState}
 use Rattle.entry_log.specs.Log.{Log}
 use Rattle.egress.specs.Streams.{StreamSeen}
+use Rattle.consensus_core.specs.Member.{Sent as Packet}
 use Rattle.network.specs.Net.{NetSeen, coming, first_of}
 use Rattle.sbe_consensus.specs.declared.packet.Outgoing.{Outgoing}
 use Rattle.service_api.specs.declared.shipped.Kind.{Kind}
-use Rattle.run_world.specs.RunWorld.{RunWorld, Act, Passes, Hands, Duty, Asks, Hears, Starts, Stops, Fails, Invalidates, Fuses, Begins, Takes, Closes, Writes, Sends, Cuts, Heals, Loses, Replays, seat}
+use Rattle.service_runs.specs.Hosts.{longer}
+use Rattle.run_world.specs.RunWorld.{RunWorld, Act, all_sent, Passes, Hands, Duty, Asks, Hears, Starts, Stops, Fails, Invalidates, Fuses, Begins, Takes, Closes, Writes, Sends, Cuts, Heals, Loses, Replays, seat}
 use Rattle.run_orders.specs.Stands.{AreRecords, IsSeat, RunSeen, SeatSeen}
 
 -- ---- what the driver has of one member
@@ -26,6 +28,10 @@ one_of y x = record { now = x.now; seat = y; net = x.net; streams = x.streams; p
 -- the driver once member m and what all share are this
 abbrev pub with_one : {D : Type 0} → ℕ → OneSeen D → RunSeen D → RunSeen D
 with_one m o x = record { now = o.now; seats = set x.seats m o.seat; net = o.net; streams = o.streams; printed = o.printed }
+
+-- what the driver has of member m, once it is this and has sent these packets, and this log is printed where it is longer than what is
+abbrev pub one_put : {D : Type 0} → ℕ → SeatSeen D → List Packet → Log → OneSeen D → OneSeen D
+one_put m y ps log o = record { now = o.now; seat = y; net = all_sent m ps o.net; streams = o.streams; printed = longer o.printed log }
 
 module _ {D : Type 0} (state : D → DiskState) (kinds : List Kind) where
   -- what the driver has of member m, and of what all share, stands to the world
@@ -69,3 +75,9 @@ actor w (Cuts from to) = None
 actor w (Heals from to) = None
 actor w (Loses from to) = None
 actor w (Replays from to latest) = None
+
+-- whether an act may print: a packet's row or a duty's, by which its member may commit more
+abbrev pub may_print : Act → Bool
+may_print (Hands f) = true
+may_print (Duty m f) = true
+may_print _ = false

@@ -1,11 +1,8 @@
 use Rattle.member_gives.proofs.what_is_printed_is_the_worlds.Goals as goal
-use Rattle.member_gives.proofs.Printed.{prints-still, prints-world, prints-act, prints-turn}
+use Rattle.member_gives.proofs.Printed.{prints-still, prints-act, prints-turn}
 
 pub returns-clause-still : goal.returns-clause-still
 returns-clause-still g c n kinds w m u going p five three lawful up is = prints-still _ kinds n w m u going p five three lawful up is
-
-pub returns-clause-world : goal.returns-clause-world
-returns-clause-world g c n kinds w a m five three lawful of = prints-world n kinds w a m five three lawful of
 
 pub returns-clause-act : goal.returns-clause-act
 returns-clause-act g c n kinds w a m u going p five three lawful of up is = prints-act _ kinds n w a m u going p five three lawful of up is
