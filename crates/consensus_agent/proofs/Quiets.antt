@@ -1,11 +1,10 @@
 -- What calls that only read leave of a mount.
-use Rattle.std.proofs.Common.{◌≡◌, ⊎_elim, ℕ, ◌≤◌, Bool, true, false, IsTrue, List, Result, Ok, Err, refl, sym, ap, subst, ◌∙◌, arith}
+use Rattle.std.proofs.Common.{◌≡◌, ⊎_elim, ℕ, ◌≤◌, Bool, true, false, IsTrue, List, Result, Ok, Err, sym, ap, subst, ◌∙◌, arith}
 use Rattle.std.specs.Prelude.{OnOk, IfErr}
 use Rattle.cl_base.specs.Counts.{Rose}
 use Rattle.cl_base.specs.Disk.{DiskState, FileState, IsImage, IsImageOf, LeavesOnly, OthersStay}
 use Rattle.cl_base.specs.Faults.{HasMountCause}
-use Rattle.cl_base.specs.Fuse.{Passed}
-use Rattle.cl_base.specs.Looks.{Looks, Same, looks_same, same_none, same_more}
+use Rattle.cl_base.specs.Looks.{Looks, looks_same, same_none, same_more}
 use Rattle.cl_base.specs.Runs.{EachImage}
 use Rattle.cl_base.specs.declared.fault.MemberFault.{MemberFault}
 use Rattle.cl_base.specs.declared.fault.MemberFault.TheVariants as fault

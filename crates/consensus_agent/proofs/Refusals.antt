@@ -12,7 +12,8 @@ use Rattle.sbe_client.specs.declared.ingress.Ingress.TheVariants as ingress
 use Rattle.sbe_events.specs.Spelling.{term_of}
 use Rattle.sbe_events.specs.declared.event.Event.{Event}
 use Rattle.sbe_events.specs.declared.event.Event.TheVariants as event
-use Rattle.member_disk.specs.Kept.{Kept}
+use Rattle.cl_base.specs.Disk.{DiskState}
+use Rattle.member_disk.specs.Kept.{Kept, Held as DiskHeld}
 use Rattle.member_module.specs.Held.{Held as ModuleHeld}
 use Rattle.ingress.specs.declared.outcome.Outcome.{Outcome}
 use Rattle.ingress.specs.declared.outcome.Outcome.TheVariants as outcome
@@ -177,10 +178,11 @@ done_leaves (decisions.Refuse refusal) now o term a b m n refuses of done = subs
 done_leaves (decisions.Alive session) now o term a b m n refuses of done = subst (λ z. Leaves z term a b) (sym done.0) done.1
 done_leaves (decisions.Append e) now o term a b m n refuses of done = subst (λ z. Leaves z term a b) (sym done.0) (record { event = e; of_term = of; appended = done.1 })
 
-pub client_leaves : (v : Values) (bytes : List ℕ) (now : ℕ) (o : Outcome) (a b : Kept) (m n : ModuleHeld) → TookClient v bytes now o a b m n → Leaves o v.election.term a b
-client_leaves v bytes now o a b m n took =
-    done_leaves took.decision now o v.election.term a b m n (bytes_refuse took.view bytes now took.decision took.by) (of_admitted took.view 0 now v.election.term took.decision took.is.term (took.by.admits 0)) took.done
+module _ {D : Type 0} (state : D → DiskState) (is_told is_honest : D → Bool) where
+  pub client_leaves : (v : Values) (bytes : List ℕ) (now : ℕ) (o : Outcome) (a b : DiskHeld D) (m n : ModuleHeld) → TookClient state is_told is_honest v bytes now o a b m n → Leaves o v.election.term a.kept b.kept
+  client_leaves v bytes now o a b m n took =
+      done_leaves took.decision now o v.election.term a.kept b.kept m n (bytes_refuse took.view bytes now took.decision took.by) (of_admitted took.view 0 now v.election.term took.decision took.is.term (took.by.admits 0)) took.done
 
-pub action_leaves : (v : Values) (now : ℕ) (o : Outcome) (a b : Kept) (m n : ModuleHeld) → TookAction v now o a b m n → Leaves o v.election.term a b
-action_leaves v now o a b m n took =
-    done_leaves took.decision now o v.election.term a b m n (ap refusal_in took.by.is ∙ action_refuses took.view _ now) (of_admitted took.view _ now v.election.term took.decision took.is.term took.by.admits) took.done
+  pub action_leaves : (v : Values) (now : ℕ) (o : Outcome) (a b : DiskHeld D) (m n : ModuleHeld) → TookAction state is_told is_honest v now o a b m n → Leaves o v.election.term a.kept b.kept
+  action_leaves v now o a b m n took =
+      done_leaves took.decision now o v.election.term a.kept b.kept m n (ap refusal_in took.by.is ∙ action_refuses took.view _ now) (of_admitted took.view _ now v.election.term took.decision took.is.term took.by.admits) took.done

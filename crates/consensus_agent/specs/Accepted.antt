@@ -1,5 +1,6 @@
 -- What an order of a client, or an action, leaves of a member.
-use Rattle.std.specs.Prelude.{◌≡◌, ⊤, ℕ, ◌≤◌, ℤ, true, List, [], ◌∷◌, ◌++◌, length, take, Some, None}
+use Rattle.std.specs.Prelude.{◌≡◌, ⊤, ℕ, ◌≤◌, ℤ, Bool, true, List, [], ◌∷◌, ◌++◌, length, take, Some, None, Result, Ok, Err}
+use Rattle.cl_base.specs.Disk.{DiskState}
 use Rattle.wire_prims.specs.declared.fault.Bad.{Bad}
 use Rattle.entry_log.specs.Log.{Log, end_after}
 use Rattle.entry_log.specs.Shape.{shape_of, end_of}
@@ -9,9 +10,10 @@ use Rattle.sbe_client.specs.declared.ingress.Ingress.{Ingress}
 use Rattle.egress.specs.declared.sent.Sent.{Sent}
 use Rattle.sbe_events.specs.Spelling.{HasSpelling, spelling_of, term_of}
 use Rattle.sbe_events.specs.declared.event.Event.{Event}
-use Rattle.member_disk.specs.Kept.{Kept}
+use Rattle.member_disk.specs.Kept.{Kept, Held as DiskHeld}
 use Rattle.module_state.specs.Module.{Module}
 use Rattle.member_module.specs.Held.{Held as ModuleHeld, at_end, heard}
+use Rattle.consensus_core.specs.declared.change.Change.TheVariants as changes
 use Rattle.consensus_core.specs.declared.values.Values.{Values}
 use Rattle.consensus_core.specs.Fit.{leader_number}
 use Rattle.consensus_core.specs.Member.{is_ready}
@@ -22,6 +24,9 @@ use Rattle.ingress.specs.declared.outcome.Outcome.{Outcome}
 use Rattle.ingress.specs.declared.outcome.Outcome.TheVariants as outcome
 use Rattle.ingress.specs.declared.view.View.{View}
 use Rattle.ingress.specs.Decisions.{Admits, decided, decided_action}
+use Rattle.consensus_agent.specs.declared.fault.AgentFault.{AgentFault}
+use Rattle.consensus_agent.specs.declared.fault.AgentFault.TheVariants as fault
+use Rattle.consensus_agent.specs.Disks.{Done, Went}
 use Rattle.consensus_agent.specs.Rows.{IsKept}
 
 -- an event of a leader's term that has room behind its log
@@ -135,18 +140,63 @@ IsDone (decisions.Refuse refusal) now o a b m n = (o ≡ refusal) × (b ≡ a) �
 IsDone (decisions.Alive session) now o a b m n = (o ≡ outcome.Alive) × (b ≡ a) × IsHeard session now m n
 IsDone (decisions.Append e) now o a b m n = (o ≡ outcome.Accepted (length a.log)) × IsAppended (length a.log) e a b × HasMore e m n
 
--- a client's bytes were taken, with this outcome
-pub record TookClient (v : Values) (bytes : List ℕ) (now : ℕ) (o : Outcome) (a b : Kept) (m n : ModuleHeld) : Type 0 where
-  pub view : View
-  pub decision : Decided
-  pub is : IsView view v a.log (at_end m)
-  pub by : IsDecided view bytes now decision
-  pub done : IsDone decision now o a b m n
+-- a fact of the event that a decision appends
+abbrev pub OnAppend : Decided → (Event → Type 0) → Type 0
+OnAppend (decisions.Append e) P = P e
+OnAppend _ P = ⊤
 
--- an action was taken, with this outcome
-pub record TookAction (v : Values) (now : ℕ) (o : Outcome) (a b : Kept) (m n : ModuleHeld) : Type 0 where
-  pub view : View
-  pub decision : Decided
-  pub is : IsView view v a.log (at_end m)
-  pub by : IsDecidedAction view (at_end m) now decision
-  pub done : IsDone decision now o a b m n
+module _ {D : Type 0} (state : D → DiskState) (is_told is_honest : D → Bool) where
+  -- an event was appended, and the disk did it
+  pub record Adds (e : Event) (a b : DiskHeld D) : Type 0 where
+    pub went : Went state is_told is_honest (changes.Append (entry_of e ∷ [])) a b
+    pub done : Done state is_told is_honest (changes.Append (entry_of e ∷ [])) a b
+
+  -- a client's bytes were taken, with this outcome
+  pub record TookClient (v : Values) (bytes : List ℕ) (now : ℕ) (o : Outcome) (a b : DiskHeld D) (m n : ModuleHeld) : Type 0 where
+    pub view : View
+    pub decision : Decided
+    pub is : IsView view v a.kept.log (at_end m)
+    pub by : IsDecided view bytes now decision
+    pub done : IsDone decision now o a.kept b.kept m n
+    pub adds : OnAppend decision (λ e. Adds e a b)
+
+  -- an action was taken, with this outcome
+  pub record TookAction (v : Values) (now : ℕ) (o : Outcome) (a b : DiskHeld D) (m n : ModuleHeld) : Type 0 where
+    pub view : View
+    pub decision : Decided
+    pub is : IsView view v a.kept.log (at_end m)
+    pub by : IsDecidedAction view (at_end m) now decision
+    pub done : IsDone decision now o a.kept b.kept m n
+    pub adds : OnAppend decision (λ e. Adds e a b)
+
+-- ---- or a fault came in between
+
+-- a fact of a call, but for one that had no memory
+abbrev pub UnlessNoMemory : {T : Type 0} → Result T AgentFault → Type 0 → Type 0
+UnlessNoMemory (Err fault.NoMemory) p = ⊤
+UnlessNoMemory _ p = p
+
+-- a fact of a call that a fault of the disk ended
+abbrev pub OnFault : {T : Type 0} → Result T AgentFault → Type 0 → Type 0
+OnFault (Ok x) p = ⊤
+OnFault (Err fault.NoMemory) p = ⊤
+OnFault (Err _) p = p
+
+module _ {D : Type 0} (state : D → DiskState) (is_told is_honest : D → Bool) where
+  -- an event was to be appended, and this the disk made of it
+  pub record Tries (e : Event) (a b : DiskHeld D) : Type 0 where
+    pub spelled : HasSpelling e
+    pub went : Went state is_told is_honest (changes.Append (entry_of e ∷ [])) a b
+
+  -- what was decided on was to append an event, and this the disk made of it
+  abbrev pub IsTried : Decided → DiskHeld D → DiskHeld D → Type 0
+  IsTried (decisions.Append e) a b = Tries e a b
+  IsTried _ a b = ⊥
+
+  -- an event that was decided on so was to be appended, and this the disk made of it
+  pub record Tried (decides : View → Decided → Type 0) (v : Values) (m : ModuleHeld) (a b : DiskHeld D) : Type 0 where
+    pub view : View
+    pub event : Event
+    pub is : IsView view v a.kept.log (at_end m)
+    pub by : decides view (decisions.Append event)
+    pub tries : Tries event a b

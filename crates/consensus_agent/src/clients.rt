@@ -1,12 +1,14 @@
 // What a member does with a client's message, and with a snapshot action.
-ghost use Rattle.std.specs.Prelude.{◌≡◌, ◌≤◌, ◌^◌, true, IsTrue, IfOk, IfSome, OnErr, OnOk};
+ghost use Rattle.std.specs.Prelude.{◌≡◌, ◌≤◌, ◌^◌, ◌∷◌, [], true, IsTrue, IfOk, IfSome, OnErr, OnOk};
 ghost use Rattle.entry_log.specs.Shape.{end_of, shape_of};
 ghost use Rattle.sbe_events.specs.Spelling.{HasSpelling, spelling_of, term_of};
 ghost use Rattle.consensus_core.specs.Member.{is_ready as leads};
 ghost use Rattle.consensus_core.specs.Reign.{entry_of};
+ghost use Rattle.consensus_core.specs.declared.change.Change.TheVariants as Change;
 ghost use Rattle.ingress.specs.Decisions.{IsSeen};
 ghost use Rattle.member_module.specs.Held.{at_end, latest_of};
-ghost use Rattle.consensus_agent.specs.Accepted.{Decides, DecidesAction, HasMore, HasRoom, HasRoomFor, IsAppended, IsCalm, IsDirect, IsDone, IsView, Leaves, OnNothingNew, TookAction, TookClient};
+ghost use Rattle.consensus_agent.specs.Accepted.{Adds, Decides, DecidesAction, HasMore, HasRoom, HasRoomFor, IsAppended, IsCalm, IsDecided, IsDecidedAction, IsDirect, IsDone, IsTried, IsView, Leaves, OnAppend, OnFault, OnNothingNew, TookAction, TookClient, Tried, UnlessNoMemory};
+ghost use Rattle.consensus_agent.specs.Disks.{Done, Went};
 ghost use Rattle.consensus_agent.specs.Rows.{IsKept};
 
 use crate::agent::Agent;
@@ -69,7 +71,7 @@ impl<D: Disk> Agent<D> {
     }
 
     /// The answer to a connect that was refused, where it gets one.
-    fn answer(&self, bytes: &[u8], outcome: &Outcome) -> Result<Option<Sent>, AgentFault>
+    fn answer(&self, bytes: &[u8], outcome: &Outcome) -> Result<Option<Sent>, NoMemory>
         ensures { IfOk result (λ r. IfSome r IsDirect) }
     {
         let redirects = match outcome {
@@ -82,7 +84,7 @@ impl<D: Disk> Agent<D> {
         };
         let (corr, stream) = match decode_ingress(self.alloc, bytes) {
             Ok(Ingress::Connect { corr, stream, .. }) => (corr, stream),
-            Err(DecodeFault::NoMemory) => return Err(AgentFault::NoMemory),
+            Err(DecodeFault::NoMemory) => return Err(NoMemory),
             _ => return Ok(None),
         };
         let term = self.core.term();
@@ -115,6 +117,9 @@ impl<D: Disk> Agent<D> {
         ensures whole { OnOk result (IsTrue self.new.is_whole) }
         ensures appended { IfOk result (λ i. IsAppended i event self.old.disk.kept self.new.disk.kept) }
         ensures more { OnOk result (HasMore event self.old.module self.new.module) }
+        ensures went { Went D.state D.tells D.is_honest (Change.Append (entry_of event ∷ [])) self.old.disk self.new.disk }
+        ensures done { OnOk result (Done D.state D.tells D.is_honest (Change.Append (entry_of event ∷ [])) self.old.disk self.new.disk) }
+        ensures spelled { OnFault result (HasSpelling event) }
         ensures stays { OnErr result (IsKept self.old.disk.kept.node self.old.disk.kept.log self.new.disk.kept) }
         ensures early { OnErr result (IsTrue self.new.is_whole → self.new.disk ≡ self.old.disk) }
     {
@@ -167,6 +172,8 @@ impl<D: Disk> Agent<D> {
         ensures over { self.new.over ≡ self.old.over }
         ensures whole { OnOk result (IsTrue self.new.is_whole) }
         ensures done { IfOk result (λ o. IsDone decided now o self.old.disk.kept self.new.disk.kept self.old.module self.new.module) }
+        ensures adds { OnOk result (OnAppend decided (λ e. Adds D.state D.tells D.is_honest e self.old.disk self.new.disk)) }
+        ensures tried { OnFault result (IsTried D.state D.tells D.is_honest decided self.old.disk self.new.disk) }
         ensures stays { OnErr result (IsKept self.old.disk.kept.node self.old.disk.kept.log self.new.disk.kept) }
         ensures early { OnErr result (IsTrue self.new.is_whole → self.new.disk ≡ self.old.disk) }
         ensures untouched { IfOk result (λ o. OnNothingNew o (self.new.disk ≡ self.old.disk)) }
@@ -198,7 +205,9 @@ impl<D: Disk> Agent<D> {
         ensures values { self.new.core.values ≡ self.old.core.values }
         ensures over { self.new.over ≡ self.old.over }
         ensures whole { OnOk result (IsTrue self.new.is_whole) }
-        ensures took { IfOk result (λ r. TookClient self.old.core.values bytes.now now r.0 self.old.disk.kept self.new.disk.kept self.old.module self.new.module) }
+        ensures took { IfOk result (λ r. TookClient D.state D.tells D.is_honest self.old.core.values bytes.now now r.0 self.old.disk self.new.disk self.old.module self.new.module) }
+        ensures was_whole { UnlessNoMemory result (IsTrue self.old.is_whole) }
+        ensures tried { OnFault result (Tried D.state D.tells D.is_honest (λ w. IsDecided w bytes.now now) self.old.core.values self.old.module self.old.disk self.new.disk) }
         ensures untouched { IfOk result (λ r. OnNothingNew r.0 (self.new.disk ≡ self.old.disk)) }
         ensures core { IfOk result (λ r. OnNothingNew r.0 (self.new.core ≡ self.old.core)) }
         ensures direct { IfOk result (λ r. IfSome r.1 IsDirect) }
@@ -229,7 +238,9 @@ impl<D: Disk> Agent<D> {
         ensures values { self.new.core.values ≡ self.old.core.values }
         ensures over { self.new.over ≡ self.old.over }
         ensures whole { OnOk result (IsTrue self.new.is_whole) }
-        ensures took { IfOk result (λ o. TookAction self.old.core.values now o self.old.disk.kept self.new.disk.kept self.old.module self.new.module) }
+        ensures took { IfOk result (λ o. TookAction D.state D.tells D.is_honest self.old.core.values now o self.old.disk self.new.disk self.old.module self.new.module) }
+        ensures was_whole { UnlessNoMemory result (IsTrue self.old.is_whole) }
+        ensures tried { OnFault result (Tried D.state D.tells D.is_honest (λ w. IsDecidedAction w (at_end self.old.module) now) self.old.core.values self.old.module self.old.disk self.new.disk) }
         ensures untouched { IfOk result (λ o. OnNothingNew o (self.new.disk ≡ self.old.disk)) }
         ensures core { IfOk result (λ o. OnNothingNew o (self.new.core ≡ self.old.core)) }
         ensures leaves { IfOk result (λ o. Leaves o self.old.core.values.election.term self.old.disk.kept self.new.disk.kept) }

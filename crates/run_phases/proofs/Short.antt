@@ -66,8 +66,8 @@ pub any_within : (n commit : ℕ) (ahead log : List Entry) (cs ds : List Held) �
     → ahead ≡ drop n log → Each (IsWithin log commit) cs → Each (IsWithin log commit) ds
 any_within n commit ahead log cs ds at grew f is w =
     elim (cases_lt (length log) n) as (λ _. Each (IsWithin log commit) ds) [
-      inl short ↦ all_back n commit log cs ds short at w grew (f (blanks n) (short_ahead n ahead log is short) (omega (arith, blanks_length n)) (all_blanks n commit log cs short at w))
-    | inr there ↦ f log is there w
+      | inl short ↦ all_back n commit log cs ds short at w grew (f (blanks n) (short_ahead n ahead log is short) (omega (arith, blanks_length n)) (all_blanks n commit log cs short at w))
+      | inr there ↦ f log is there w
     ]
 
 pub any_all : (n commit : ℕ) (ahead log : List Entry) (cs ds : List Held) → Each (IsAt n) cs → Each2 Grew cs ds
@@ -75,8 +75,8 @@ pub any_all : (n commit : ℕ) (ahead log : List Entry) (cs ds : List Held) → 
     → ahead ≡ drop n log → Each (IsWithin log commit) cs → Each (HasAll log commit) ds
 any_all n commit ahead log cs ds at grew f is w =
     elim (cases_lt (length log) n) as (λ _. Each (HasAll log commit) ds) [
-      inl short ↦
-        let h = f (blanks n) (short_ahead n ahead log is short) (omega (arith, blanks_length n)) (all_blanks n commit log cs short at w) in
-        has_back log (blanks n) commit ds (all_back n commit log cs ds short at w grew (each_weaker (HasAll (blanks n) commit) (IsWithin (blanks n) commit) (λ d k. k.within) ds h)) h
-    | inr there ↦ f log is there w
+      | inl short ↦
+          let h = f (blanks n) (short_ahead n ahead log is short) (omega (arith, blanks_length n)) (all_blanks n commit log cs short at w) in
+          has_back log (blanks n) commit ds (all_back n commit log cs ds short at w grew (each_weaker (HasAll (blanks n) commit) (IsWithin (blanks n) commit) (λ d k. k.within) ds h)) h
+      | inr there ↦ f log is there w
     ]

@@ -1,11 +1,14 @@
-use Rattle.std.proofs.Common.{◌≡◌, ◌++◌, ◌∷◌, [], true, length, ap, sym, subst, ◌∙◌, rules}
+use Rattle.std.proofs.Common.{◌≡◌, refl, ◌++◌, ◌∷◌, [], true, length, ap, sym, subst, ◌∙◌, rules}
 use Rattle.entry_log.specs.Shape.{Shape, shape_of}
 use Rattle.member_module.specs.Held.{Held as ModuleHeld}
+use Rattle.consensus_core.specs.declared.change.Change.TheVariants as changes
+use Rattle.consensus_core.specs.Reign.{entry_of}
 use Rattle.consensus_core.specs.Standing.{CanFollow}
 use Rattle.consensus_agent.specs.Rows.{IsKept}
 use Rattle.consensus_agent.proofs.Running.{values_in}
+use Rattle.consensus_agent.proofs.Disking.{went_none}
 use Rattle.consensus_agent.proofs.Entries.{length_shape}
-use Rattle.consensus_agent.proofs.Orders.{has_more}
+use Rattle.consensus_agent.proofs.Orders.{done_one, has_more, went_one}
 use Rattle.consensus_agent.proofs.Views.{may_append, appended, appended_sound, entry_is}
 use Rattle.consensus_agent.proofs.agent.Agent.append_one.Goals as goal
 
@@ -57,3 +60,33 @@ returns-clause-more g c =
     c.put.ensures.rest
     c.put.ensures.entries
     c.put.ensures.events
+
+pub returns-in_err-append-clause-went : goal.returns-in_err-append-clause-went
+returns-in_err-append-clause-went g c =
+    let term : c.entry_with-entry.result.term ≡ c.args.self.now.core.values.election.term = search rules in
+    went_one g.D.Disk.state g.D.Disk.tells g.D.Disk.is_honest c.args.event c.entry_with-entry.result c.from_ref.result.now c.args.self.now.disk c.append.new.disk c.from_ref.ensures.value
+    (entry_is c.args.event c.entry_with-entry.result (term ∙ sym c.requires.room.term) (c.entry_with-entry.ensures.bytes ∙ c.in_ok-bytes.ensures.spelled))
+    c.append.ensures.went
+
+pub returns-clause-went : goal.returns-clause-went
+returns-clause-went g c =
+    let term : c.entry_with-entry.result.term ≡ c.args.self.now.core.values.election.term = search rules in
+    went_one g.D.Disk.state g.D.Disk.tells g.D.Disk.is_honest c.args.event c.entry_with-entry.result c.from_ref.result.now c.args.self.now.disk c.append.new.disk c.from_ref.ensures.value
+    (entry_is c.args.event c.entry_with-entry.result (term ∙ sym c.requires.room.term) (c.entry_with-entry.ensures.bytes ∙ c.in_ok-bytes.ensures.spelled))
+    c.append.ensures.went
+
+pub returns-clause-done : goal.returns-clause-done
+returns-clause-done g c =
+    let term : c.entry_with-entry.result.term ≡ c.args.self.now.core.values.election.term = search rules in
+    done_one g.D.Disk.state g.D.Disk.tells g.D.Disk.is_honest c.args.event c.entry_with-entry.result c.from_ref.result.now c.args.self.now.disk c.append.new.disk c.from_ref.ensures.value
+    (entry_is c.args.event c.entry_with-entry.result (term ∙ sym c.requires.room.term) (c.entry_with-entry.ensures.bytes ∙ c.in_ok-bytes.ensures.spelled))
+    c.in_ok-append.ensures.done
+
+pub returns-then-not-is_admissible-clause-went : goal.returns-then-not-is_admissible-clause-went
+returns-then-not-is_admissible-clause-went g c = went_none g.D.Disk.state g.D.Disk.tells g.D.Disk.is_honest (changes.Append (entry_of c.args.event ∷ [])) c.args.self.now.disk c.args.self.now.disk refl
+
+pub returns-in_err-bytes-clause-went : goal.returns-in_err-bytes-clause-went
+returns-in_err-bytes-clause-went g c = went_none g.D.Disk.state g.D.Disk.tells g.D.Disk.is_honest (changes.Append (entry_of c.args.event ∷ [])) c.args.self.now.disk c.args.self.now.disk refl
+
+pub returns-in_err-expect-clause-went : goal.returns-in_err-expect-clause-went
+returns-in_err-expect-clause-went g c = went_none g.D.Disk.state g.D.Disk.tells g.D.Disk.is_honest (changes.Append (entry_of c.args.event ∷ [])) c.args.self.now.disk c.args.self.now.disk refl

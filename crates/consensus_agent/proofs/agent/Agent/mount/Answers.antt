@@ -1,4 +1,4 @@
-use Rattle.std.proofs.Common.{◌≡◌, ◌∙◌, ap, sym, subst, IsTrue, arith}
+use Rattle.std.proofs.Common.{◌∙◌, ap, sym, subst, IsTrue, arith}
 use Rattle.recording_log.specs.Sets.{HasNoSet}
 use Rattle.service_phases.specs.Phases.{Lending}
 use Rattle.cl_base.specs.Runs.{EachImage}
