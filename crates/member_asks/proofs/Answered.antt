@@ -17,7 +17,8 @@ use Rattle.member_module.specs.Held.{at_end}
 use Rattle.module_state.specs.Module.{Module}
 use Rattle.run_world.specs.Seat.{Seat}
 use Rattle.run_orders.specs.Stands.{EndedSeen, IsSeat, UpSeen, containers_of}
-use Rattle.member_asks.specs.Clauses.{ActionFailed, ActionTaken, ClientFailed, ClientTaken, OnAppend}
+use Rattle.consensus_agent.specs.Accepted.{OnAppend}
+use Rattle.member_asks.specs.Clauses.{ActionFailed, ActionTaken, ClientFailed, ClientTaken}
 use Rattle.member_asks.specs.Made.{Falls, Makes, ended_by, resting, running}
 use Rattle.member_asks.proofs.Read.{action-content, client-content}
 use Rattle.member_asks.proofs.Taken.{fallen, made}
@@ -38,12 +39,12 @@ module _ {D : Type 0} (state : D → DiskState) (is_told is_honest : D → Bool)
       → Makes state kinds by.took.decision now s (running v going choice ended)
   client-taken bytes o answer seat honest by =
       made state is_told is_honest kinds u v going choice ended s now o u.core.values.election.term by.took.view by.took.decision seat honest by.stays by.sound by.whole by.untouched by.leaves by.took.is (by.took.by.admits (at_end u.module_held).counts.actions)
-      (client-bytes by.took.view bytes now by.took.decision by.octets by.took.by) by.adds by.took.done
+      (client-bytes by.took.view bytes now by.took.decision by.octets by.took.by) by.took.adds by.took.done
 
   pub action-taken : (o : Outcome) → IsSeat state kinds (running u going choice ended) s → IsTrue (is_honest u.disk.disk) → (by : ActionTaken state is_told is_honest now o u v) → Makes state kinds by.took.decision now s (running v going choice ended)
   action-taken o seat honest by =
       made state is_told is_honest kinds u v going choice ended s now o u.core.values.election.term by.took.view by.took.decision seat honest by.stays by.sound by.whole by.untouched by.leaves by.took.is by.took.by.admits
-      (action-bytes by.took.view (at_end u.module_held) now by.took.decision by.took.by) by.adds by.took.done
+      (action-bytes by.took.view (at_end u.module_held) now by.took.decision by.took.by) by.took.adds by.took.done
 
   -- ---- where the disk failed
 
@@ -51,9 +52,9 @@ module _ {D : Type 0} (state : D → DiskState) (is_told is_honest : D → Bool)
     pub client-failed : (bytes : List ℕ) (by : ClientFailed state is_told is_honest bytes now u v) → Falls state kinds now s by.tried.event (resting d (ended ++ ended_by v.base (containers_of going v.lending)))
     client-failed bytes by =
         let t = by.tried in
-        fallen state is_told is_honest kinds u going s seat.home now t.view t.event t.is (t.by.admits (at_end u.module_held).counts.actions) v choice ended d files honest by.stays by.sound (t.spelled, client-content t.view bytes now t.event by.octets t.by) t.went crash seat
+        fallen state is_told is_honest kinds u going s seat.home now t.view t.event t.is (t.by.admits (at_end u.module_held).counts.actions) v choice ended d files honest by.stays by.sound (t.tries.spelled, client-content t.view bytes now t.event by.octets t.by) t.tries.went crash seat
 
     pub action-failed : (by : ActionFailed state is_told is_honest now u v) → Falls state kinds now s by.tried.event (resting d (ended ++ ended_by v.base (containers_of going v.lending)))
     action-failed by =
         let t = by.tried in
-        fallen state is_told is_honest kinds u going s seat.home now t.view t.event t.is t.by.admits v choice ended d files honest by.stays by.sound (t.spelled, action-content t.view (at_end u.module_held).counts.actions now t.event t.by.is) t.went crash seat
+        fallen state is_told is_honest kinds u going s seat.home now t.view t.event t.is t.by.admits v choice ended d files honest by.stays by.sound (t.tries.spelled, action-content t.view (at_end u.module_held).counts.actions now t.event t.by.is) t.tries.went crash seat

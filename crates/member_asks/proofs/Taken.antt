@@ -38,7 +38,8 @@ use Rattle.run_world.specs.RunWorld.{may_ask, view_at}
 use Rattle.run_orders.specs.Kept.{IsStateOf}
 use Rattle.run_orders.specs.Stands.{EndedSeen, SeatSeen, IsEnded, IsSeat, IsUp, UpSeen, containers_of, parts_of}
 use Rattle.run_orders.proofs.Standing.{sees-end}
-use Rattle.member_asks.specs.Clauses.{Adds, OnAppend, Sound, Stays}
+use Rattle.consensus_agent.specs.Accepted.{Adds, OnAppend}
+use Rattle.member_asks.specs.Clauses.{Sound, Stays}
 use Rattle.member_asks.specs.Made.{Accepts, Falls, Makes, ended_by, resting, running}
 use Rattle.member_asks.proofs.Asking.{may-ask, ready, room}
 use Rattle.member_asks.proofs.Calm.{heard-seat, nothing-new, refused}
