@@ -1,2 +1,6 @@
 pub mod Worlds
 pub mod Takes
+pub mod Grown
+pub mod Events
+pub mod Moduled
+pub mod Sessions

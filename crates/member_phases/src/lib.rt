@@ -1,16 +1,39 @@
 //! What a phase makes of a member, tied to the world of a run.
 #![tactic(auto)]
 
-ghost use Rattle.std.specs.Prelude.{◌≡◌, ℕ, ℤ, Bool, true, List, Option, length};
+ghost use Rattle.std.specs.Prelude.{◌≡◌, ℕ, ◌-◌, ℤ, Bool, true, List, Option, length, map, drop, take};
+ghost use Rattle.consensus_agent.specs.Consumed.{HaveRising, outboxes};
+ghost use Rattle.entry_log.specs.Log.{Log};
+ghost use Rattle.module_state.specs.Entries.{IsWellFormedOn, events_in};
+ghost use Rattle.module_state.specs.Places.{log_of};
+ghost use Rattle.module_state.specs.Services.{module_of};
+ghost use Rattle.owed_egress.specs.Taken.{module_over, outboxes_in};
+ghost use Rattle.run_orders.specs.Stands.{HaveInputs};
 ghost use Rattle.service_api.specs.declared.shipped.Kind.{Kind};
+ghost use Rattle.service_container.specs.Held.{Held};
 ghost use Rattle.run_world.specs.Lawful.{Lawful};
 ghost use Rattle.run_world.specs.Rounds.{consume};
 ghost use Rattle.run_world.specs.RunWorld.{RunWorld, after_acts, seat};
 ghost use Rattle.run_world.specs.Seat.{Goes};
+ghost use Rattle.member_phases.specs.Grown.{GrewTo};
 ghost use Rattle.member_phases.specs.Seats.{all_fed, with_seat};
 
 /// In a phase that goes on some takes let each service of its member consume all that is committed, and change nothing else.
 pub fn services_take_what_is_committed()
     ensures { (n : ℕ) (kinds : List Kind) (w : RunWorld) (m : ℕ) (role : Option ℤ) (over : Bool) → Lawful n kinds w → (seat w m).member.up ≡ true → (seat w m).phase ≡ Goes role over → length (seat w m).run.inputs ≡ length kinds
         → (ks : List ℕ) × (after_acts kinds w (consume m ks) ≡ with_seat m (all_fed (seat w m)) w) }
+{}
+
+/// Services that consumed the log up to a commit have it as their inputs, and in their outboxes, rising, what comes out of its entries.
+pub fn services_have_what_is_committed()
+    ensures inputs { (kinds : List Kind) (log : Log) (base applied commit : ℕ) (cs ds : List Held) (inputs : List Log) → GrewTo kinds log base applied commit cs ds inputs → HaveInputs kinds base log 0 ds (map (λ (xs : Log). take commit log) inputs) }
+    ensures outboxes { (kinds : List Kind) (log : Log) (base applied commit : ℕ) (cs ds : List Held) (inputs : List Log) → log ≡ log_of (events_in log) → GrewTo kinds log base applied commit cs ds inputs
+        → outboxes ds ≡ outboxes_in kinds (events_in log) applied (commit - applied) }
+    ensures rising { (kinds : List Kind) (log : Log) (base applied commit : ℕ) (cs ds : List Held) (inputs : List Log) → GrewTo kinds log base applied commit cs ds inputs → HaveRising ds }
+{}
+
+/// The module that takes what is committed, with what such services ask in it, is the module of the log up to there.
+pub fn the_module_has_what_is_committed()
+    ensures { (kinds : List Kind) (log : Log) (base applied commit : ℕ) (cs ds : List Held) (inputs : List Log) → IsWellFormedOn kinds log → GrewTo kinds log base applied commit cs ds inputs
+        → module_over (outboxes ds) applied (module_of kinds (events_in (take applied log))) (take (commit - applied) (events_in (drop applied log))) ≡ module_of kinds (events_in (take commit log)) }
 {}
