@@ -4,3 +4,5 @@ pub mod Grown
 pub mod Events
 pub mod Moduled
 pub mod Sessions
+pub mod Owed
+pub mod Recorded

@@ -56,6 +56,7 @@ asked-alike a b v (commands.CloseSession session) same = λ id. found id session
 asked-alike a b v (commands.Schedule corr deadline) same = same
 asked-alike a b v (commands.Cancel corr) same = same
 asked-alike a b v (commands.Offer service n payload) same = same
+asked-alike a b v (commands.Ack _ _) same = same
 
 pub asks-alike : (m : Module) (asks : List Asked) → Alike m.sessions (after_asks module_part m asks).sessions
 asks-alike m asks = asks_keep module_part (λ (t : Module). Alike m.sessions t.sessions) (λ t v c same. asked-alike m.sessions t.sessions v c same) m asks (λ id. refl)

@@ -2,15 +2,19 @@
 #![tactic(auto)]
 
 ghost use Rattle.std.specs.Prelude.{◌≡◌, ℕ, ◌-◌, ℤ, Bool, true, List, Option, length, map, drop, take};
+ghost use Rattle.commit_counter.specs.declared.role.Role.{Role};
 ghost use Rattle.consensus_agent.specs.Consumed.{HaveRising, outboxes};
 ghost use Rattle.entry_log.specs.Log.{Log};
 ghost use Rattle.module_state.specs.Entries.{IsWellFormedOn, events_in};
 ghost use Rattle.module_state.specs.Places.{log_of};
 ghost use Rattle.module_state.specs.Services.{module_of};
-ghost use Rattle.owed_egress.specs.Taken.{module_over, outboxes_in};
-ghost use Rattle.run_orders.specs.Stands.{HaveInputs};
+ghost use Rattle.owed_egress.specs.Taken.{module_over, outboxes_in, sent_over};
+ghost use Rattle.run_orders.specs.Stands.{HaveInputs, IsRecord, term_led};
 ghost use Rattle.service_api.specs.declared.shipped.Kind.{Kind};
 ghost use Rattle.service_container.specs.Held.{Held};
+ghost use Rattle.service_phases.specs.Pairs.{Each2};
+ghost use Rattle.service_runs.specs.Hosts.{sent_in};
+ghost use Rattle.one_log.specs.Ruled.{rules_of};
 ghost use Rattle.run_world.specs.Lawful.{Lawful};
 ghost use Rattle.run_world.specs.Rounds.{consume};
 ghost use Rattle.run_world.specs.RunWorld.{RunWorld, after_acts, seat};
@@ -36,4 +40,10 @@ pub fn services_have_what_is_committed()
 pub fn the_module_has_what_is_committed()
     ensures { (kinds : List Kind) (log : Log) (base applied commit : ℕ) (cs ds : List Held) (inputs : List Log) → IsWellFormedOn kinds log → GrewTo kinds log base applied commit cs ds inputs
         → module_over (outboxes ds) applied (module_of kinds (events_in (take applied log))) (take (commit - applied) (events_in (drop applied log))) ≡ module_of kinds (events_in (take commit log)) }
+{}
+
+/// What is sent of the entries that the module takes is, record by record, what they owe in the world.
+pub fn records_are_what_is_owed()
+    ensures { (kinds : List Kind) (log : Log) (base applied commit : ℕ) (cs ds : List Held) (inputs : List Log) (m : ℕ) (role : Role) → IsWellFormedOn kinds log → GrewTo kinds log base applied commit cs ds inputs
+        → Each2 IsRecord (sent_in (rules_of kinds) m (term_led role) log applied commit) (sent_over role (outboxes ds) applied (module_of kinds (events_in (take applied log))) (take (commit - applied) (events_in (drop applied log)))) }
 {}
