@@ -6,3 +6,5 @@ pub mod Moduled
 pub mod Sessions
 pub mod Owed
 pub mod Recorded
+pub mod Ending
+pub mod Phased

@@ -216,7 +216,7 @@ module _ (kinds : List Kind) (log : Log) (formed : IsWellFormedOn kinds log) (m 
 
   -- ---- all of them
 
-  none-below : (role : Option ℤ) (from n : ℕ) → n ≤ from → sent_in r m role log from n ≡ []
+  pub none-below : (role : Option ℤ) (from n : ℕ) → n ≤ from → sent_in r m role log from n ≡ []
   none-below role from zero low = refl
   none-below role from (suc n) low =
       let past : nat_le from n ≡ false = grind (arith, nat_tests, low) in

@@ -1,2 +1,4 @@
+pub mod Calls
 pub mod Grown
+pub mod Phases
 pub mod Seats

@@ -1,7 +1,7 @@
 //! What a phase makes of a member, tied to the world of a run.
 #![tactic(auto)]
 
-ghost use Rattle.std.specs.Prelude.{◌≡◌, ℕ, ◌-◌, ℤ, Bool, true, List, Option, length, map, drop, take};
+ghost use Rattle.std.specs.Prelude.{◌≡◌, ◌≤◌, ℕ, ◌-◌, ℤ, Bool, true, false, List, [], Option, length, map, drop, take};
 ghost use Rattle.commit_counter.specs.declared.role.Role.{Role};
 ghost use Rattle.consensus_agent.specs.Consumed.{HaveRising, outboxes};
 ghost use Rattle.entry_log.specs.Log.{Log};
@@ -9,18 +9,23 @@ ghost use Rattle.module_state.specs.Entries.{IsWellFormedOn, events_in};
 ghost use Rattle.module_state.specs.Places.{log_of};
 ghost use Rattle.module_state.specs.Services.{module_of};
 ghost use Rattle.owed_egress.specs.Taken.{module_over, outboxes_in, sent_over};
-ghost use Rattle.run_orders.specs.Stands.{HaveInputs, IsRecord, term_led};
+ghost use Rattle.run_orders.specs.Stands.{HaveInputs, IsRecord, IsUp, UpSeen, term_led};
 ghost use Rattle.service_api.specs.declared.shipped.Kind.{Kind};
 ghost use Rattle.service_container.specs.Held.{Held};
 ghost use Rattle.service_phases.specs.Pairs.{Each2};
-ghost use Rattle.service_runs.specs.Hosts.{sent_in};
+ghost use Rattle.service_runs.specs.Hosts.{due_in, sent_in};
 ghost use Rattle.one_log.specs.Ruled.{rules_of};
 ghost use Rattle.run_world.specs.Lawful.{Lawful};
 ghost use Rattle.run_world.specs.Rounds.{consume};
 ghost use Rattle.run_world.specs.RunWorld.{RunWorld, after_acts, seat};
 ghost use Rattle.run_world.specs.Seat.{Goes};
+ghost use Rattle.egress.specs.declared.sent.Sent.{Sent};
+ghost use Rattle.member_phases.specs.Calls.{IsBetween, PhaseDone, commit_of};
 ghost use Rattle.member_phases.specs.Grown.{GrewTo};
+ghost use Rattle.member_phases.specs.Phases.{IsPhase};
 ghost use Rattle.member_phases.specs.Seats.{all_fed, with_seat};
+
+use cl_base::Disk;
 
 /// In a phase that goes on some takes let each service of its member consume all that is committed, and change nothing else.
 pub fn services_take_what_is_committed()
@@ -46,4 +51,11 @@ pub fn the_module_has_what_is_committed()
 pub fn records_are_what_is_owed()
     ensures { (kinds : List Kind) (log : Log) (base applied commit : ℕ) (cs ds : List Held) (inputs : List Log) (m : ℕ) (role : Role) → IsWellFormedOn kinds log → GrewTo kinds log base applied commit cs ds inputs
         → Each2 IsRecord (sent_in (rules_of kinds) m (term_led role) log applied commit) (sent_over role (outboxes ds) applied (module_of kinds (events_in (take applied log))) (take (commit - applied) (events_in (drop applied log)))) }
+{}
+
+/// A phase of a member that writes no snapshot is a phase in the world: its member stands to its seat after it, and what it sends is what is sent there.
+pub fn a_phase_is_acts<D: Disk>()
+    ensures plain { (n : ℕ) (kinds : List Kind) (w : RunWorld) (m : ℕ) (u v : UpSeen D) (sent : List Sent) → n ≤ 5 → length kinds ≤ 3 → Lawful n kinds w → IsUp D.state kinds u false (seat w m) → PhaseDone D.state D.tells D.is_honest u v sent
+        → due_in (rules_of kinds) (seat w m).member.durable.log (seat w m).applied (seat w m).member.values.rest.commit ≡ [] → v.disk ≡ u.disk → IsPhase D.state kinds m v sent w }
+    ensures still { (n : ℕ) (kinds : List Kind) (w : RunWorld) (m : ℕ) (u : UpSeen D) → n ≤ 5 → length kinds ≤ 3 → Lawful n kinds w → IsUp D.state kinds u false (seat w m) → IsBetween u → commit_of u ≤ u.module_held.consumed → IsPhase D.state kinds m u [] w }
 {}
