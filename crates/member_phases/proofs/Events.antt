@@ -17,7 +17,7 @@ module _ {X : Type 0} where
   abbrev pub some_of : X → Option X
   some_of x = Some x
 
-  some-is : (x y : X) → some_of x ≡ some_of y → x ≡ y
+  pub some-is : (x y : X) → some_of x ≡ some_of y → x ≡ y
   some-is x y is = cc
 
   -- a front with one more

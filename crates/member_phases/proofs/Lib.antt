@@ -8,3 +8,6 @@ pub mod Owed
 pub mod Recorded
 pub mod Ending
 pub mod Phased
+pub mod Counted
+pub mod Found
+pub mod Snapped

@@ -37,7 +37,7 @@ use Rattle.run_world.specs.RunWorld.{RunWorld, seat}
 use Rattle.run_world.proofs.Shown.{member-shown}
 use Rattle.run_orders.specs.Kept.{IsMountable, IsStateOf}
 use Rattle.run_orders.specs.Stands.{HasInput, HaveInputs, HasModule, IsRecord, IsUp, UpSeen, term_led}
-use Rattle.member_phases.specs.Calls.{IsBetween, PhaseDone, behind, commit_of, stage_of}
+use Rattle.member_phases.specs.Calls.{IsBetween, PhaseDone, behind, commit_of, snapshots_due, stage_of}
 use Rattle.member_phases.specs.Grown.{GrewTo}
 use Rattle.member_phases.specs.Phases.{IsPhase}
 use Rattle.member_phases.specs.Seats.{all_fed, with_seat}
@@ -46,7 +46,9 @@ use Rattle.member_phases.proofs.Events.{log-long, rest-events}
 use Rattle.member_phases.proofs.Grown.{grown, take-on}
 use Rattle.member_phases.proofs.Moduled.{module-grown}
 use Rattle.member_phases.proofs.Owed.{none-below}
-use Rattle.member_phases.proofs.Recorded.{records-each}
+use Rattle.member_phases.proofs.Recorded.{records-each, snapshots-each}
+use Rattle.member_phases.specs.Snapshots.{snap_in, snapshot_as}
+use Rattle.consensus_agent.specs.Written.{AreWritten, Snapshot, actions_over, snapshots_of}
 use Rattle.member_phases.proofs.Takes.{each-front}
 use Rattle.member_phases.proofs.Worlds.{IsFront, commit-low, front-is, inputs-front}
 
@@ -294,10 +296,30 @@ module _ {D : Type 0} (state : D → DiskState) (is_told is_honest : D → Bool)
       phase = refl;
     }
 
+    -- ---- its snapshots
+
+    pub snapshots-are : map snapshot_as (snapshots_due u v) ≡ map snap_in (due_in (rules_of kinds) past s.applied s.member.values.rest.commit)
+    snapshots-are =
+        let over = λ (l : Log) (t : Module) (es : List Event). map snapshot_as (snapshots_of v.lending.kept (actions_over (outboxes v.lending.kept) (shape_of l) first t (take (behind u) es))) in
+        ap (λ (l : Log). over l u.module_held.state u.module_held.ahead.events) (sym up.durable.log)
+        ∙ ap (λ (t : Module). over past t u.module_held.ahead.events) state-at
+        ∙ ap (over past (module_of kinds (events_in (take first past)))) events-at
+        ∙ snapshots-each kinds past u.base first (commit_of u) u.lending.kept v.lending.kept s.run.inputs formed grows
+        ∙ ap (λ (k : ℕ). map snap_in (due_in (rules_of kinds) past k (commit_of u))) up.has_module.applied
+        ∙ ap (λ (k : ℕ). map snap_in (due_in (rules_of kinds) past s.applied k)) same-commit
+
+    -- none is written
+    disk-same : due_in (rules_of kinds) past s.applied s.member.values.rest.commit ≡ [] → v.disk ≡ u.disk
+    disk-same none = unwritten (snapshots_due u v) (snapshots-are ∙ ap (map snap_in) none) d.written
+      where
+        unwritten : (ss : List Snapshot) → map snapshot_as ss ≡ [] → AreWritten state is_told is_honest ss u.disk v.disk → v.disk ≡ u.disk
+        unwritten [] e same = same
+        unwritten (x ∷ ss) e same = absurd (cc)
+
     -- ---- a phase in which no snapshot is due
 
-    pub plain-phase : due_in (rules_of kinds) past s.applied s.member.values.rest.commit ≡ [] → v.disk ≡ u.disk → IsPhase state kinds m v sent w
-    plain-phase none same = record {
+    pub plain-phase : due_in (rules_of kinds) past s.applied s.member.values.rest.commit ≡ [] → IsPhase state kinds m v sent w
+    plain-phase none = let same = disk-same none in record {
       after = after n kinds w m lawful up.up up.phase count;
       records = records n kinds w m lawful up.up up.phase count;
       phased = phase-plain n kinds w m lawful up.up up.phase count none;

@@ -2,3 +2,4 @@ pub mod Calls
 pub mod Grown
 pub mod Phases
 pub mod Seats
+pub mod Snapshots

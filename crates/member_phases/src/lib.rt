@@ -19,11 +19,14 @@ ghost use Rattle.run_world.specs.Lawful.{Lawful};
 ghost use Rattle.run_world.specs.Rounds.{consume};
 ghost use Rattle.run_world.specs.RunWorld.{RunWorld, after_acts, seat};
 ghost use Rattle.run_world.specs.Seat.{Goes};
+ghost use Rattle.consensus_agent.specs.Written.{actions_over, snapshots_of};
+ghost use Rattle.entry_log.specs.Shape.{shape_of};
 ghost use Rattle.egress.specs.declared.sent.Sent.{Sent};
 ghost use Rattle.member_phases.specs.Calls.{IsBetween, PhaseDone, commit_of};
 ghost use Rattle.member_phases.specs.Grown.{GrewTo};
 ghost use Rattle.member_phases.specs.Phases.{IsPhase};
 ghost use Rattle.member_phases.specs.Seats.{all_fed, with_seat};
+ghost use Rattle.member_phases.specs.Snapshots.{snap_in, snapshot_as};
 
 use cl_base::Disk;
 
@@ -53,9 +56,15 @@ pub fn records_are_what_is_owed()
         → Each2 IsRecord (sent_in (rules_of kinds) m (term_led role) log applied commit) (sent_over role (outboxes ds) applied (module_of kinds (events_in (take applied log))) (take (commit - applied) (events_in (drop applied log)))) }
 {}
 
+/// The snapshots that the module and such services leave are those that are due in the world, one after the other, with the same entries and pieces.
+pub fn snapshots_are_what_is_due()
+    ensures { (kinds : List Kind) (log : Log) (base applied commit : ℕ) (cs ds : List Held) (inputs : List Log) → IsWellFormedOn kinds log → GrewTo kinds log base applied commit cs ds inputs
+        → map snapshot_as (snapshots_of ds (actions_over (outboxes ds) (shape_of log) applied (module_of kinds (events_in (take applied log))) (take (commit - applied) (events_in (drop applied log))))) ≡ map snap_in (due_in (rules_of kinds) log applied commit) }
+{}
+
 /// A phase of a member that writes no snapshot is a phase in the world: its member stands to its seat after it, and what it sends is what is sent there.
 pub fn a_phase_is_acts<D: Disk>()
     ensures plain { (n : ℕ) (kinds : List Kind) (w : RunWorld) (m : ℕ) (u v : UpSeen D) (sent : List Sent) → n ≤ 5 → length kinds ≤ 3 → Lawful n kinds w → IsUp D.state kinds u false (seat w m) → PhaseDone D.state D.tells D.is_honest u v sent
-        → due_in (rules_of kinds) (seat w m).member.durable.log (seat w m).applied (seat w m).member.values.rest.commit ≡ [] → v.disk ≡ u.disk → IsPhase D.state kinds m v sent w }
+        → due_in (rules_of kinds) (seat w m).member.durable.log (seat w m).applied (seat w m).member.values.rest.commit ≡ [] → IsPhase D.state kinds m v sent w }
     ensures still { (n : ℕ) (kinds : List Kind) (w : RunWorld) (m : ℕ) (u : UpSeen D) → n ≤ 5 → length kinds ≤ 3 → Lawful n kinds w → IsUp D.state kinds u false (seat w m) → IsBetween u → commit_of u ≤ u.module_held.consumed → IsPhase D.state kinds m u [] w }
 {}

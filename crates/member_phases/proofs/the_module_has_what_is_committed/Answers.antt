@@ -1,5 +1,4 @@
 use Rattle.member_phases.proofs.Moduled.{module-grown}
-use Rattle.member_phases.proofs.Sessions.{owed-alike}
 use Rattle.member_phases.proofs.the_module_has_what_is_committed.Goals as goal
 
 pub returns : goal.returns
