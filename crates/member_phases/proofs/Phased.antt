@@ -1,6 +1,6 @@
 -- A whole phase, on both sides.
 use Rattle.std.proofs.Common.{◌≡◌, ℕ, zero, suc, ◌+◌, ◌-◌, ◌<◌, ◌≤◌, ℤ, Bool, true, false, List, [], ◌∷◌, ◌++◌, length, map, take, drop, Option, Some, None, refl, sym, ap, ◌∙◌, subst, arith, length-append, length-drop, if◌then◌else◌}
-use Rattle.std.specs.Prelude.{Contains, nat_le, slice_get}
+use Rattle.std.specs.Prelude.{Contains, IsTrue, nat_le, slice_get}
 use Rattle.std.proofs.lemmas.Bool.Decides.{nat_tests}
 use Rattle.std.proofs.lemmas.List.{drop-drop, length-map}
 use Rattle.std.proofs.Math.Seq.{drop-append_seam}
@@ -18,10 +18,10 @@ use Rattle.service_container.specs.Held.{Held as ContainerHeld, consumed_to}
 use Rattle.service_phases.specs.Pairs.{Each, Each2}
 use Rattle.service_phases.specs.Phases.{HasAll, IsAt, IsWithin}
 use Rattle.service_runs.proofs.Lists.{take-length}
-use Rattle.service_runs.specs.Hosts.{Output, Rules, due_in, due_of, role_of, sent_in}
+use Rattle.service_runs.specs.Hosts.{Due, Output, Rules, due_in, due_of, role_of, sent_in}
 use Rattle.consensus_core.specs.declared.values.Values.{Values}
 use Rattle.consensus_core.specs.Fit.{Held as CoreHeld}
-use Rattle.consensus_core.specs.Member.{Member, is_ready}
+use Rattle.consensus_core.specs.Member.{Member, Whole, is_ready}
 use Rattle.consensus_agent.specs.Consumed.{outboxes, role_in}
 use Rattle.consensus_agent.specs.Phases.{stage}
 use Rattle.module_state.specs.Entries.{IsWellFormedOn, events_in}
@@ -32,23 +32,25 @@ use Rattle.one_log.specs.Led.{led, turns}
 use Rattle.one_log.proofs.Turns.{logs-formed, stays}
 use Rattle.owed_egress.specs.Taken.{module_over, sent_over}
 use Rattle.run_world.specs.Lawful.{Lawful}
-use Rattle.run_world.specs.Seat.{Faults, Seat, Rests}
+use Rattle.run_world.specs.Seat.{Fate, Faults, Seat, Rests}
 use Rattle.run_world.specs.RunWorld.{RunWorld, seat}
 use Rattle.run_world.proofs.Shown.{member-shown}
-use Rattle.run_orders.specs.Kept.{IsMountable, IsStateOf}
+use Rattle.run_orders.specs.Kept.{HasFaults, IsMountable, IsStateOf}
 use Rattle.run_orders.specs.Stands.{HasInput, HaveInputs, HasModule, IsRecord, IsUp, UpSeen, term_led}
 use Rattle.member_phases.specs.Calls.{IsBetween, PhaseDone, behind, commit_of, snapshots_due, stage_of}
 use Rattle.member_phases.specs.Grown.{GrewTo}
 use Rattle.member_phases.specs.Phases.{IsPhase}
 use Rattle.member_phases.specs.Seats.{all_fed, with_seat}
-use Rattle.member_phases.proofs.Ending.{after, phase-plain, records}
+use Rattle.member_phases.proofs.Ending.{after, after-puts, left-after, phase-plain, phase-whole, put-keeps, records}
 use Rattle.member_phases.proofs.Events.{log-long, rest-events}
 use Rattle.member_phases.proofs.Grown.{grown, take-on}
 use Rattle.member_phases.proofs.Moduled.{module-grown}
 use Rattle.member_phases.proofs.Owed.{none-below}
 use Rattle.member_phases.proofs.Recorded.{records-each, snapshots-each}
-use Rattle.member_phases.specs.Snapshots.{snap_in, snapshot_as}
-use Rattle.consensus_agent.specs.Written.{AreWritten, Snapshot, actions_over, snapshots_of}
+use Rattle.member_phases.specs.Snapshots.{HasPut, all_put, snap_in, snapshot_as}
+use Rattle.consensus_agent.specs.Disks.{IsRight}
+use Rattle.cl_base.specs.declared.disk.Choice.{Choice}
+use Rattle.consensus_agent.specs.Written.{AreWritten, IsThereIn, IsWritten, Snapshot, actions_over, snapshots_of}
 use Rattle.member_phases.proofs.Takes.{each-front}
 use Rattle.member_phases.proofs.Worlds.{IsFront, commit-low, front-is, inputs-front}
 
@@ -111,6 +113,9 @@ module _ (x : Member) (base applied : ℕ) (low : base ≤ length x.durable.log)
       let is : take applied log ≡ xs = ap (λ (k : ℕ). take k log) (sym many) ∙ sym (front-is xs log fronts.0.0) in
       (λ i. is i ∷ all-same kinds (suc number) cs xss have.1 at.1 fronts.1 i)
 
+clash : true ≡ false → ⊥
+clash e = cc
+
 -- ---- nothing is due
 
 due-below : (r : Rules) (log : Log) (from n : ℕ) → n ≤ from → due_in r log from n ≡ []
@@ -169,7 +174,7 @@ module _ {D : Type 0} (state : D → DiskState) (is_told is_honest : D → Bool)
 
   -- ---- a phase in which nothing is due
 
-  pub still-phase : commit_of u ≤ u.module_held.consumed → IsPhase state kinds m u [] w
+  pub still-phase : commit_of u ≤ u.module_held.consumed → IsPhase state kinds m u u [] w
   still-phase none = record {
     after = after n kinds w m lawful up.up up.phase count;
     records = records n kinds w m lawful up.up up.phase count;
@@ -195,6 +200,8 @@ module _ {D : Type 0} (state : D → DiskState) (is_told is_honest : D → Bool)
       inputs = subst (HaveInputs kinds u.base past 0 u.lending.kept) (sym same) up.inputs;
       phase = refl;
     };
+    ended = refl;
+    faults = λ choice has. has;
     each = subst (λ (os : List Output). Each2 IsRecord os []) (sym (none-below kinds past formed m (role_of s.member) s.applied s.member.values.rest.commit (let a = at in omega (arith, a)))) tt;
   }
     where
@@ -318,7 +325,7 @@ module _ {D : Type 0} (state : D → DiskState) (is_told is_honest : D → Bool)
 
     -- ---- a phase in which no snapshot is due
 
-    pub plain-phase : due_in (rules_of kinds) past s.applied s.member.values.rest.commit ≡ [] → IsPhase state kinds m v sent w
+    pub plain-phase : due_in (rules_of kinds) past s.applied s.member.values.rest.commit ≡ [] → IsPhase state kinds m u v sent w
     plain-phase none = let same = disk-same none in record {
       after = after n kinds w m lawful up.up up.phase count;
       records = records n kinds w m lawful up.up up.phase count;
@@ -326,4 +333,54 @@ module _ {D : Type 0} (state : D → DiskState) (is_told is_honest : D → Bool)
       up = up-after s.member s.faults up.up refl refl (subst (λ (h : DiskHeld D). IsMountable (length kinds) h.kept) (sym same) up.mountable) (subst (λ (h : DiskHeld D). EachStands h.kept (state h.disk).files) (sym same) up.each)
           (subst (λ (h : DiskHeld D). IsStateOf h.kept (state h.disk).files s.member.durable) (sym same) up.durable);
       each = new-records;
+      ended = refl;
+      faults = λ choice has. subst (λ (h : DiskHeld D). HasFaults (state h.disk) choice s.faults) (sym same) has;
     }
+
+    -- ---- a phase that writes snapshots
+
+    -- a fuse that burnt before burns no more
+    one-alive : (x : Snapshot) (a b : DiskHeld D) → IsRight state is_told is_honest a → IsWritten state is_told is_honest x a b → (state a.disk).burnt ≡ false → (state b.disk).burnt ≡ false
+    one-alive x a b right written alive = by (state b.disk).burnt refl
+      where
+        by : (z : Bool) → (state b.disk).burnt ≡ z → (state b.disk).burnt ≡ false
+        by false e = e
+        by true e =
+            let new : IsThereIn x a.kept → ⊥ = λ old. clash (sym e ∙ ap (λ (h : D). (state h).burnt) (written.again old) ∙ alive) in
+            (written.passed right alive new).burnt
+
+    all-alive : (ss : List Snapshot) (a b : DiskHeld D) → IsRight state is_told is_honest a → AreWritten state is_told is_honest ss a b → (state a.disk).burnt ≡ false → (state b.disk).burnt ≡ false
+    all-alive [] a b right same alive = subst (λ (h : DiskHeld D). (state h.disk).burnt ≡ false) (sym same) alive
+    all-alive (x ∷ ss) a b right written alive = all-alive ss written.0 b (written.1.right right) written.2 (one-alive x a written.0 right written.1 alive)
+
+    abbrev fate : Fate
+    fate = record { cut = Whole; lets = (state v.disk.disk).lets; own = (state v.disk.disk).own_faults }
+
+    pub written-phase : IsTrue (is_honest u.disk.disk) → HasPut state kinds v (all_put (due_in (rules_of kinds) past s.applied s.member.values.rest.commit) s.member) → IsPhase state kinds m u v sent w
+    written-phase honest put = record {
+      after = after-puts n kinds w m lawful up.up up.phase count fate;
+      records = records n kinds w m lawful up.up up.phase count;
+      phased = phase-whole n kinds w m lawful up.up up.phase count fate refl;
+      up = up-after (all_put due_here s.member) (left-after n kinds w m lawful up.up up.phase count fate due_here s.faults) (keeps.0 ∙ up.up) keeps.1 keeps.2 put.mountable put.each put.durable;
+      each = new-records;
+      ended = refl;
+      faults = λ choice has. by due_here (snapshots-are) choice has;
+    }
+      where
+        due_here : List Due
+        due_here = due_in (rules_of kinds) past s.applied s.member.values.rest.commit
+
+        keeps : ((all_put due_here s.member).up ≡ s.member.up) × ((all_put due_here s.member).values ≡ s.member.values) × ((all_put due_here s.member).durable.log ≡ s.member.durable.log)
+        keeps = put-keeps n kinds w m lawful up.up up.phase count due_here s.member
+
+        right : IsRight state is_told is_honest u.disk
+        right = record { honest = honest; each = up.each; terms = up.mountable.terms }
+
+        none : (ss : List Snapshot) → map snapshot_as ss ≡ [] → AreWritten state is_told is_honest ss u.disk v.disk → v.disk ≡ u.disk
+        none [] e same = same
+        none (x ∷ ss) e same = absurd (cc)
+
+        by : (ds : List Due) → map snapshot_as (snapshots_due u v) ≡ map snap_in ds → (choice : Choice) → HasFaults (state u.disk.disk) choice s.faults
+            → HasFaults (state v.disk.disk) choice (left-after n kinds w m lawful up.up up.phase count fate ds s.faults)
+        by [] e choice has = subst (λ (h : DiskHeld D). HasFaults (state h.disk) choice s.faults) (sym (none (snapshots_due u v) e d.written)) has
+        by (x ∷ ds) e choice has = record { lets = refl; left = has.left; own = refl; alive = all-alive (snapshots_due u v) u.disk v.disk right d.written has.alive }

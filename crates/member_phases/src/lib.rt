@@ -1,7 +1,7 @@
 //! What a phase makes of a member, tied to the world of a run.
 #![tactic(auto)]
 
-ghost use Rattle.std.specs.Prelude.{◌≡◌, ◌≤◌, ℕ, ◌-◌, ℤ, Bool, true, false, List, [], Option, length, map, drop, take};
+ghost use Rattle.std.specs.Prelude.{◌≡◌, ◌≤◌, ℕ, ◌-◌, ℤ, Bool, true, false, IsTrue, List, [], Option, length, map, drop, take};
 ghost use Rattle.commit_counter.specs.declared.role.Role.{Role};
 ghost use Rattle.consensus_agent.specs.Consumed.{HaveRising, outboxes};
 ghost use Rattle.entry_log.specs.Log.{Log};
@@ -26,7 +26,7 @@ ghost use Rattle.member_phases.specs.Calls.{IsBetween, PhaseDone, commit_of};
 ghost use Rattle.member_phases.specs.Grown.{GrewTo};
 ghost use Rattle.member_phases.specs.Phases.{IsPhase};
 ghost use Rattle.member_phases.specs.Seats.{all_fed, with_seat};
-ghost use Rattle.member_phases.specs.Snapshots.{snap_in, snapshot_as};
+ghost use Rattle.member_phases.specs.Snapshots.{HasPut, all_put, snap_in, snapshot_as};
 
 use cl_base::Disk;
 
@@ -62,9 +62,11 @@ pub fn snapshots_are_what_is_due()
         → map snapshot_as (snapshots_of ds (actions_over (outboxes ds) (shape_of log) applied (module_of kinds (events_in (take applied log))) (take (commit - applied) (events_in (drop applied log))))) ≡ map snap_in (due_in (rules_of kinds) log applied commit) }
 {}
 
-/// A phase of a member that writes no snapshot is a phase in the world: its member stands to its seat after it, and what it sends is what is sent there.
+/// A phase of a member is a phase in the world: its member stands to its seat after it, and what it sends is what is sent there. So it is where nothing is due, where no snapshot is, and where snapshots are, once its disk stands for the member that put them.
 pub fn a_phase_is_acts<D: Disk>()
     ensures plain { (n : ℕ) (kinds : List Kind) (w : RunWorld) (m : ℕ) (u v : UpSeen D) (sent : List Sent) → n ≤ 5 → length kinds ≤ 3 → Lawful n kinds w → IsUp D.state kinds u false (seat w m) → PhaseDone D.state D.tells D.is_honest u v sent
-        → due_in (rules_of kinds) (seat w m).member.durable.log (seat w m).applied (seat w m).member.values.rest.commit ≡ [] → IsPhase D.state kinds m v sent w }
-    ensures still { (n : ℕ) (kinds : List Kind) (w : RunWorld) (m : ℕ) (u : UpSeen D) → n ≤ 5 → length kinds ≤ 3 → Lawful n kinds w → IsUp D.state kinds u false (seat w m) → IsBetween u → commit_of u ≤ u.module_held.consumed → IsPhase D.state kinds m u [] w }
+        → due_in (rules_of kinds) (seat w m).member.durable.log (seat w m).applied (seat w m).member.values.rest.commit ≡ [] → IsPhase D.state kinds m u v sent w }
+    ensures still { (n : ℕ) (kinds : List Kind) (w : RunWorld) (m : ℕ) (u : UpSeen D) → n ≤ 5 → length kinds ≤ 3 → Lawful n kinds w → IsUp D.state kinds u false (seat w m) → IsBetween u → commit_of u ≤ u.module_held.consumed → IsPhase D.state kinds m u u [] w }
+    ensures written { (n : ℕ) (kinds : List Kind) (w : RunWorld) (m : ℕ) (u v : UpSeen D) (sent : List Sent) → n ≤ 5 → length kinds ≤ 3 → Lawful n kinds w → IsTrue (D.is_honest u.disk.disk) → IsUp D.state kinds u false (seat w m) → PhaseDone D.state D.tells D.is_honest u v sent
+        → HasPut D.state kinds v (all_put (due_in (rules_of kinds) (seat w m).member.durable.log (seat w m).applied (seat w m).member.values.rest.commit) (seat w m).member) → IsPhase D.state kinds m u v sent w }
 {}
