@@ -1,2 +1,13 @@
 pub mod Worlds
 pub mod Takes
+pub mod Grown
+pub mod Events
+pub mod Moduled
+pub mod Sessions
+pub mod Owed
+pub mod Recorded
+pub mod Ending
+pub mod Phased
+pub mod Counted
+pub mod Found
+pub mod Snapped

@@ -15,17 +15,17 @@ use Rattle.run_world.specs.Seat.{Seat, Phase, Goes, fed, is_going}
 use Rattle.run_world.specs.RunWorld.{Act, RunWorld, Takes, after_acts, committed, does, is_up, put, seat}
 use Rattle.run_world.proofs.Rows.{both}
 use Rattle.member_phases.specs.Seats.{all_fed, with_seat}
-use Rattle.member_phases.proofs.Worlds.{IsFront, acts-append, commit-low, inputs-front, own-seat, printed-all, put-is, seat-there, seat-twice, still-there, up-there}
+use Rattle.member_phases.proofs.Worlds.{IsFront, acts-append, commit-low, front-is, inputs-front, own-seat, printed-all, put-is, seat-there, seat-twice, still-there, up-there}
 
 take_of : ℕ → ℕ → Act
 take_of m k = Takes m k
 
 -- ---- from one seat to another, by takes alone
 
-abbrev IsAt : RunWorld → ℕ → Seat → Type 0
+abbrev pub IsAt : RunWorld → ℕ → Seat → Type 0
 IsAt w m s = (m < length w.seats) × (seat w m ≡ s) × (length (committed s.member) ≤ length w.printed)
 
-abbrev Feeds : List Kind → Seat → Seat → Type 0
+abbrev pub Feeds : List Kind → Seat → Seat → Type 0
 Feeds kinds s t = (ks : List ℕ) × ((w : RunWorld) (m : ℕ) → IsAt w m s → after_acts kinds w (consume m ks) ≡ with_seat m t w)
 
 feeds-none : (kinds : List Kind) (s : Seat) → Feeds kinds s s
@@ -128,12 +128,6 @@ module _ (kinds : List Kind) (s : Seat) (role : Option ℤ) (over : Bool) (up : 
 
   -- ---- all of them
 
-  -- a front of the log is the log's first entries
-  front-is : (xs l : Log) → Leads xs l → xs ≡ take (length xs) l
-  front-is [] l lead = refl
-  front-is (x ∷ xs) [] lead = absurd lead
-  front-is (x ∷ xs) (y ∷ l) lead = (λ i. lead.0 i ∷ front-is xs l lead.1 i)
-
   feeds-all : (done todo : List Log) → Each (IsFront s.member) todo → length (done ++ todo) ≡ length kinds → Feeds kinds (with_inputs s (done ++ todo)) (with_inputs s (done ++ map (λ (xs : Log). take commit log) todo))
   feeds-all done [] fronts count = feeds-none kinds (with_inputs s (done ++ []))
   feeds-all done (xs ∷ todo) fronts count =
@@ -155,13 +149,18 @@ module _ (kinds : List Kind) (s : Seat) (role : Option ℤ) (over : Bool) (up : 
 Contains-later : (xs ys : Log) (xss : List Log) → Contains xss ys → Contains (xs ∷ xss) ys
 Contains-later xs ys xss has = (suc has.0, (let a = has.1 in omega (arith, a)), has.2)
 
-each-front : (x : Member) (xss : List Log) → ((xs : Log) → Contains xss xs → IsFront x xs) → Each (IsFront x) xss
+pub each-front : (x : Member) (xss : List Log) → ((xs : Log) → Contains xss xs → IsFront x xs) → Each (IsFront x) xss
 each-front x [] all = tt
 each-front x (xs ∷ xss) all = (all xs (0, omega arith, refl), each-front x xss (λ ys has. all ys (Contains-later xs ys xss has)))
+
+-- in a phase that goes on, of a seat whose services consumed fronts of what is committed
+pub seat-feeds : (kinds : List Kind) (s : Seat) (role : Option ℤ) (over : Bool) → s.member.up ≡ true → s.phase ≡ Goes role over → s.member.values.rest.commit ≤ length s.member.durable.log → ((xs : Log) → Contains s.run.inputs xs → IsFront s.member xs)
+    → length s.run.inputs ≡ length kinds → Feeds kinds s (all_fed s)
+seat-feeds kinds s role over up goes low fronts count = feeds-all kinds s role over up goes low [] s.run.inputs (each-front s.member s.run.inputs fronts) count
 
 pub all-taken : (n : ℕ) (kinds : List Kind) (w : RunWorld) (m : ℕ) (role : Option ℤ) (over : Bool) → Lawful n kinds w → (seat w m).member.up ≡ true → (seat w m).phase ≡ Goes role over → length (seat w m).run.inputs ≡ length kinds
     → (ks : List ℕ) × (after_acts kinds w (consume m ks) ≡ with_seat m (all_fed (seat w m)) w)
 all-taken n kinds w m role over lawful up goes count =
     let s = seat w m in
-    let feeds : Feeds kinds s (all_fed s) = feeds-all kinds s role over up goes (commit-low n kinds w m lawful) [] s.run.inputs (each-front s.member s.run.inputs (λ xs has. inputs-front n kinds w m xs lawful up has)) count in
+    let feeds : Feeds kinds s (all_fed s) = seat-feeds kinds s role over up goes (commit-low n kinds w m lawful) (λ xs has. inputs-front n kinds w m xs lawful up has) count in
     (feeds.0, feeds.1 w m (up-there w m up, refl, printed-all n kinds w m lawful))

@@ -69,6 +69,12 @@ inputs-front n kinds w m xs lawful up has =
     let own = subst (λ (r : Run). Contains r.inputs xs) (sym (lawful.shows.hosts m).run) has in
     subst (λ (x : Member). IsFront x xs) shown (((is-held n kinds w lawful).live m on).inputs xs own)
 
+-- a front of a log is its first entries
+pub front-is : (xs l : Log) → Leads xs l → xs ≡ take (length xs) l
+front-is [] l lead = refl
+front-is (x ∷ xs) [] lead = absurd lead
+front-is (x ∷ xs) (y ∷ l) lead = (λ i. lead.0 i ∷ front-is xs l lead.1 i)
+
 -- ---- a seat that is set
 
 set-set : (xs : List Seat) (m : ℕ) (s t : Seat) → set (set xs m s) m t ≡ set xs m t

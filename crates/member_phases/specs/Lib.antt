@@ -1,1 +1,5 @@
+pub mod Calls
+pub mod Grown
+pub mod Phases
 pub mod Seats
+pub mod Snapshots
