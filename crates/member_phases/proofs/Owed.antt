@@ -52,8 +52,8 @@ module _ {A B : Type 0} (R : A → B → Type 0) where
 numbers-each : (m k seat : ℕ) (j i : ℕ) (service : Option ℕ) (l : List Sending) → service ≡ service_at seat → i ≡ j → Each2 IsRecord (numbered m k seat j (map record_of l)) (numbered_sent k service i (outputs_of l))
 numbers-each m k seat j i service [] at same = tt
 numbers-each m k seat j i service (s ∷ l) at same = (
-    record { entry = refl; service = at; number = same; bytes = refl },
-    numbers-each m k seat (suc j) (i + 1) service l at (omega (arith, same)),
+  record { entry = refl; service = at; number = same; bytes = refl },
+  numbers-each m k seat (suc j) (i + 1) service l at (omega (arith, same)),
 )
 
 -- ---- the outputs of a service at an entry

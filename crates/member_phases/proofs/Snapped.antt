@@ -233,7 +233,7 @@ module _ (kinds : List Kind) (log : Log) (formed : IsWellFormedOn kinds log) (ba
         ∙ ap (map snapshot_as) (snapshots-append ds old new)
         ∙ map-append snapshot_as (snapshots_of ds old) (snapshots_of ds new)
         ∙ (λ i. over-snaps first many n from (omega (arith, few)) room i
-            ++ event-snaps k less (λ some. low-at (from some)) e found.1 (module_with bs k (module_over bs first start (take n (drop first es))) (some_of e)) next i)
+        ++ event-snaps k less (λ some. low-at (from some)) e found.1 (module_with bs k (module_over bs first start (take n (drop first es))) (some_of e)) next i)
         ∙ sym (map-append snap_in (due_in r log first k) (due_of r (take k log) (some_of (entry_of e))))
         ∙ ap (λ (o : Option Entry). map snap_in (due_in r log first k ++ due_of r (take k log) o)) (sym (entry-there kinds log formed k e found.1))
         ∙ ap (map snap_in) (sym (one-more first n))

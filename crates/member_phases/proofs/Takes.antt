@@ -33,15 +33,15 @@ feeds-none kinds s = ([], λ w m at. sym (ap (λ (t : Seat). with_seat m t w) (s
 
 feeds-on : (kinds : List Kind) (s t v : Seat) → t.member ≡ s.member → Feeds kinds s t → Feeds kinds t v → Feeds kinds s v
 feeds-on kinds s t v same a b = (
-    a.0 ++ b.0,
-    λ w m at.
-    let u = with_seat m t w in
-    let next : IsAt u m t = (still-there w m t at.0, seat-there w m t at.0, subst (λ (x : Member). length (committed x) ≤ length w.printed) (sym same) at.2) in
-    ap (after_acts kinds w) (map-append (λ (k : ℕ). Takes m k) a.0 b.0)
-    ∙ acts-append kinds w (consume m a.0) (consume m b.0)
-    ∙ ap (λ (z : RunWorld). after_acts kinds z (consume m b.0)) (a.1 w m at)
-    ∙ b.1 u m next
-    ∙ seat-twice w m t v,
+  a.0 ++ b.0,
+  λ w m at.
+      let u = with_seat m t w in
+      let next : IsAt u m t = (still-there w m t at.0, seat-there w m t at.0, subst (λ (x : Member). length (committed x) ≤ length w.printed) (sym same) at.2) in
+      ap (after_acts kinds w) (map-append (λ (k : ℕ). Takes m k) a.0 b.0)
+      ∙ acts-append kinds w (consume m a.0) (consume m b.0)
+      ∙ ap (λ (z : RunWorld). after_acts kinds z (consume m b.0)) (a.1 w m at)
+      ∙ b.1 u m next
+      ∙ seat-twice w m t v,
 )
 
 -- ---- one entry
