@@ -71,7 +71,7 @@ module _ (kinds : List Kind) (log : Log) (formed : IsWellFormedOn kinds log) whe
   abbrev r : Rules
   r = rules_of kinds
 
-  spelled-at : (k : ℕ) (e : Event) → slice_get es k ≡ some_of e → HasSpelling e
+  pub spelled-at : (k : ℕ) (e : Event) → slice_get es k ≡ some_of e → HasSpelling e
   spelled-at k e at = last (take k es) (subst (AllByRecursion HasSpelling) (front-more es k e at) (all-front HasSpelling es (suc k) (all-spelled es formed.spellable)))
     where
       last : (xs : List Event) → AllByRecursion HasSpelling (xs ++ e ∷ []) → HasSpelling e
