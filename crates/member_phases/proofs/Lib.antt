@@ -13,3 +13,4 @@ pub mod Found
 pub mod Snapped
 pub mod Puts
 pub mod Written
+pub mod Seen
