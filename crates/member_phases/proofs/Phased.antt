@@ -1,29 +1,26 @@
 -- A whole phase, on both sides.
-use Rattle.std.proofs.Common.{◌≡◌, ℕ, zero, suc, ◌+◌, ◌-◌, ◌<◌, ◌≤◌, ℤ, Bool, true, false, List, [], ◌∷◌, ◌++◌, length, map, take, drop, Option, Some, None, refl, sym, ap, ◌∙◌, subst, arith, length-append, length-drop, if◌then◌else◌}
-use Rattle.std.specs.Prelude.{Contains, IsTrue, nat_le, slice_get}
+use Rattle.std.proofs.Common.{◌≡◌, ℕ, zero, suc, ◌+◌, ◌≤◌, ℤ, Bool, true, false, List, [], ◌∷◌, ◌++◌, length, map, take, drop, Option, Some, None, refl, sym, ap, ◌∙◌, subst, arith, length-append, length-drop, if◌then◌else◌}
+use Rattle.std.specs.Prelude.{IsTrue, nat_le, slice_get}
 use Rattle.std.proofs.lemmas.Bool.Decides.{nat_tests}
-use Rattle.std.proofs.lemmas.List.{drop-drop, length-map}
+use Rattle.std.proofs.lemmas.List.{drop-drop}
 use Rattle.std.proofs.Math.Seq.{drop-append_seam}
 use Rattle.cl_base.specs.Disk.{DiskState}
-use Rattle.commit_counter.specs.declared.role.Role.{Role}
 use Rattle.commit_counter.specs.declared.role.Role.TheVariants.{Follower, Leader}
 use Rattle.egress.specs.declared.sent.Sent.{Sent}
 use Rattle.entry_log.specs.Log.{Log}
-use Rattle.entry_log.specs.Shape.{entry_shape, shape_of}
-use Rattle.log_replication.specs.Prefixes.{Leads}
+use Rattle.entry_log.specs.Shape.{shape_of}
 use Rattle.member_disk.specs.Kept.{Held as DiskHeld, EachStands}
 use Rattle.sbe_events.specs.declared.event.Event.{Event}
 use Rattle.service_api.specs.declared.shipped.Kind.{Kind}
-use Rattle.service_container.specs.Held.{Held as ContainerHeld, consumed_to}
+use Rattle.service_container.specs.Held.{Held as ContainerHeld}
 use Rattle.service_phases.specs.Pairs.{Each, Each2}
-use Rattle.service_phases.specs.Phases.{HasAll, IsAt, IsWithin}
+use Rattle.service_phases.specs.Phases.{IsAt, IsWithin}
 use Rattle.service_runs.proofs.Lists.{take-length}
 use Rattle.service_runs.specs.Hosts.{Due, Output, Rules, due_in, due_of, role_of, sent_in}
 use Rattle.consensus_core.specs.declared.values.Values.{Values}
 use Rattle.consensus_core.specs.Fit.{Held as CoreHeld}
 use Rattle.consensus_core.specs.Member.{Member, Whole, is_ready}
 use Rattle.consensus_agent.specs.Consumed.{outboxes, role_in}
-use Rattle.consensus_agent.specs.Phases.{stage}
 use Rattle.module_state.specs.Entries.{IsWellFormedOn, events_in}
 use Rattle.module_state.specs.Module.{Module}
 use Rattle.module_state.specs.Services.{module_of}
@@ -32,17 +29,16 @@ use Rattle.one_log.specs.Led.{led, turns}
 use Rattle.one_log.proofs.Turns.{logs-formed, stays}
 use Rattle.owed_egress.specs.Taken.{module_over, sent_over}
 use Rattle.run_world.specs.Lawful.{Lawful}
-use Rattle.run_world.specs.Seat.{Fate, Faults, Seat, Rests}
+use Rattle.run_world.specs.Seat.{Fate, Faults, Seat}
 use Rattle.run_world.specs.RunWorld.{RunWorld, seat}
 use Rattle.run_world.proofs.Shown.{member-shown}
 use Rattle.run_orders.specs.Kept.{HasFaults, IsMountable, IsStateOf}
-use Rattle.run_orders.specs.Stands.{HasInput, HaveInputs, HasModule, IsRecord, IsUp, UpSeen, term_led}
-use Rattle.member_phases.specs.Calls.{IsBetween, PhaseDone, behind, commit_of, snapshots_due, stage_of}
+use Rattle.run_orders.specs.Stands.{HasInput, HaveInputs, IsRecord, IsUp, UpSeen, term_led}
+use Rattle.member_phases.specs.Calls.{IsBetween, PhaseDone, behind, commit_of, snapshots_due}
 use Rattle.member_phases.specs.Grown.{GrewTo}
 use Rattle.member_phases.specs.Phases.{IsPhase}
-use Rattle.member_phases.specs.Seats.{all_fed, with_seat}
 use Rattle.member_phases.proofs.Ending.{after, after-puts, left-after, phase-plain, phase-whole, put-keeps, records}
-use Rattle.member_phases.proofs.Events.{log-long, rest-events}
+use Rattle.member_phases.proofs.Events.{rest-events}
 use Rattle.member_phases.proofs.Grown.{grown, take-on}
 use Rattle.member_phases.proofs.Moduled.{module-grown}
 use Rattle.member_phases.proofs.Owed.{none-below}

@@ -1,36 +1,30 @@
 -- What the disk keeps once the snapshots of a phase are put.
-use Rattle.std.proofs.Common.{◌≡◌, ◌⊎◌, inl, inr, ℕ, zero, suc, ◌+◌, ◌*◌, ◌<◌, ◌≤◌, ◌^◌, ◌==◌, ℤ, ◌≤ℤ◌, pos, Bool, true, false, ◌&&◌, ◌||◌, List, [], ◌∷◌, ◌++◌, length, map, take, Option, Some, refl, sym, ap, ◌∙◌, subst, arith, if◌then◌else◌}
-use Rattle.std.specs.Prelude.{Contains, IsTrue, int_le, int_lt, nat_eq, nat_le, slice_get}
+use Rattle.std.proofs.Common.{◌≡◌, ◌⊎◌, inl, inr, ℕ, zero, suc, ◌+◌, ◌*◌, ◌<◌, ◌≤◌, ◌^◌, ◌==◌, ℤ, ◌≤ℤ◌, pos, Bool, true, false, ◌&&◌, ◌||◌, List, [], ◌∷◌, length, take, refl, sym, ap, ◌∙◌, subst, arith, if◌then◌else◌}
+use Rattle.std.specs.Prelude.{int_le, int_lt, nat_le, slice_get}
 use Rattle.std.specs.List.{filter, list_any}
-use Rattle.std.proofs.lemmas.Bool.Decides.{nat_tests}
 use Rattle.std.proofs.lemmas.Int.{ints}
 use Rattle.std.proofs.lemmas.List.{take-map}
-use Rattle.std.proofs.lemmas.List.Elements.{Contains-append_cases, filter-append}
 use Rattle.std.proofs.lemmas.Option.{slice_get_within}
 use Rattle.cl_base.specs.Disk.{FileState}
 use Rattle.cl_base.specs.declared.entry.Entry.{Entry}
-use Rattle.entry_log.specs.Durable.{SnapshotEntry, put_in, same_entry}
-use Rattle.entry_log.specs.Log.{Log, place, same_term}
+use Rattle.entry_log.specs.Durable.{SnapshotEntry}
+use Rattle.entry_log.specs.Log.{Log, place}
 use Rattle.entry_log.specs.Shape.{end_from-shape_of, end_of, entry_shape, shape_of}
 use Rattle.log_segment.specs.Held.{IsHeld, new_terms}
 use Rattle.recording_log.specs.declared.entry.RecEntry.{RecEntry}
-use Rattle.recording_log.specs.Valid.{in_range, is_snapshot as is_put, snapshot_entry}
-use Rattle.recording_log.specs.Listed.{IsThere}
+use Rattle.recording_log.specs.Valid.{in_range, is_snapshot as is_put}
 use Rattle.member_disk.specs.declared.durable.SnapshotHead.{SnapshotHead}
 use Rattle.member_disk.specs.Changes.{IsHead, base_of, entry_for}
 use Rattle.member_disk.specs.Kept.{Kept}
-use Rattle.member_disk.specs.CutWell.{snapshots_of}
 use Rattle.member_disk.proofs.NewTerms.{base_ranged, new_terms_ranged}
-use Rattle.agreement.proofs.Snaps2.{same_term-is}
 use Rattle.consensus_agent.proofs.Views.{front_ends}
 use Rattle.run_world.proofs.Rows.{both}
-use Rattle.world.proofs.Rows.{and_true}
 use Rattle.sbe_events.specs.declared.event.Event.{Event}
 use Rattle.sbe_events.specs.declared.event.Event.TheVariants as events
-use Rattle.sbe_events.specs.Spelling.{HasSpelling, IsNumber, event_of, term_of}
+use Rattle.sbe_events.specs.Spelling.{HasSpelling, IsNumber, term_of}
 use Rattle.service_api.specs.declared.shipped.Kind.{Kind}
 use Rattle.service_phases.specs.Pairs.{Each, Each2}
-use Rattle.service_runs.specs.Hosts.{Rules, actions, snap_of}
+use Rattle.service_runs.specs.Hosts.{actions, snap_of}
 use Rattle.service_runs.proofs.Sendings.{actions-below}
 use Rattle.module_state.specs.Entries.{IsWellFormedOn, events_in}
 use Rattle.module_state.specs.Places.{entry_of}

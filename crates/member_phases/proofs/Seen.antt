@@ -1,5 +1,5 @@
 -- A phase, in all that the driver has.
-use Rattle.std.proofs.Common.{◌≡◌, ℕ, zero, suc, Bool, true, false, List, [], ◌∷◌, ◌++◌, set, Option, Some, refl, sym, ap, ◌∙◌, subst, if◌then◌else◌}
+use Rattle.std.proofs.Common.{◌≡◌, ℕ, zero, suc, Bool, true, List, [], ◌∷◌, ◌++◌, set, refl, sym, ap, ◌∙◌, subst, if◌then◌else◌}
 use Rattle.std.specs.Prelude.{is_some}
 use Rattle.std.specs.List.{filter, fold}
 use Rattle.std.proofs.lemmas.List.Elements.{filter-append}
@@ -11,9 +11,8 @@ use Rattle.service_api.specs.declared.shipped.Kind.{Kind}
 use Rattle.service_phases.specs.Pairs.{Each2}
 use Rattle.service_runs.specs.Hosts.{Output}
 use Rattle.consensus_core.specs.Member.{Run}
-use Rattle.run_world.specs.Seat.{Seat}
 use Rattle.run_world.specs.RunWorld.{RunWorld, seat, with_records}
-use Rattle.run_orders.specs.Stands.{AreRecords, EndedSeen, IsEnded, IsRecord, IsSeat, RunSeen, SeatSeen, Stands, Up, UpSeen, has_entry, more_sent, parts_of}
+use Rattle.run_orders.specs.Stands.{AreRecords, EndedSeen, IsEnded, IsRecord, IsSeat, RunSeen, Stands, UpSeen, has_entry, more_sent, parts_of}
 use Rattle.member_phases.specs.Phases.{IsPhase, phase_seen, resting_seat}
 use Rattle.member_phases.specs.Seats.{with_seat}
 use Rattle.member_phases.proofs.Owed.{each-append}

@@ -1,18 +1,17 @@
 -- Services consume what is committed.
-use Rattle.std.proofs.Common.{◌≡◌, ℕ, zero, suc, ◌+◌, ◌-◌, ◌<◌, ◌≤◌, ℤ, Bool, true, false, ◌&&◌, List, [], ◌∷◌, ◌++◌, length, map, set, take, drop, Option, refl, sym, ap, ◌∙◌, subst, arith, length-append, append_assoc, if◌then◌else◌}
+use Rattle.std.proofs.Common.{◌≡◌, ℕ, zero, suc, ◌+◌, ◌-◌, ◌<◌, ◌≤◌, ℤ, Bool, true, ◌&&◌, List, [], ◌∷◌, ◌++◌, length, map, set, take, drop, Option, refl, sym, ap, ◌∙◌, subst, arith, length-append, append_assoc, if◌then◌else◌}
 use Rattle.std.specs.Prelude.{Contains, nat_lt, slice_index_or}
 use Rattle.std.proofs.lemmas.Bool.Decides.{nat_tests}
-use Rattle.std.proofs.lemmas.List.{append-nil, map-append}
+use Rattle.std.proofs.lemmas.List.{map-append}
 use Rattle.entry_log.specs.Log.{Log}
-use Rattle.log_replication.specs.Prefixes.{Leads}
 use Rattle.service_api.specs.declared.shipped.Kind.{Kind}
 use Rattle.consensus_core.specs.Member.{Member, Run, input_of, may_take, with_next}
 use Rattle.service_phases.specs.Pairs.{Each}
 use Rattle.service_runs.proofs.Lists.{take-length}
 use Rattle.run_world.specs.Lawful.{Lawful}
 use Rattle.run_world.specs.Rounds.{consume}
-use Rattle.run_world.specs.Seat.{Seat, Phase, Goes, fed, is_going}
-use Rattle.run_world.specs.RunWorld.{Act, RunWorld, Takes, after_acts, committed, does, is_up, put, seat}
+use Rattle.run_world.specs.Seat.{Seat, Goes, fed, is_going}
+use Rattle.run_world.specs.RunWorld.{Act, RunWorld, Takes, after_acts, committed, is_up, put, seat}
 use Rattle.run_world.proofs.Rows.{both}
 use Rattle.member_phases.specs.Seats.{all_fed, with_seat}
 use Rattle.member_phases.proofs.Worlds.{IsFront, acts-append, commit-low, front-is, inputs-front, own-seat, printed-all, put-is, seat-there, seat-twice, still-there, up-there}
@@ -33,15 +32,15 @@ feeds-none kinds s = ([], λ w m at. sym (ap (λ (t : Seat). with_seat m t w) (s
 
 feeds-on : (kinds : List Kind) (s t v : Seat) → t.member ≡ s.member → Feeds kinds s t → Feeds kinds t v → Feeds kinds s v
 feeds-on kinds s t v same a b = (
-    a.0 ++ b.0,
-    λ w m at.
-    let u = with_seat m t w in
-    let next : IsAt u m t = (still-there w m t at.0, seat-there w m t at.0, subst (λ (x : Member). length (committed x) ≤ length w.printed) (sym same) at.2) in
-    ap (after_acts kinds w) (map-append (λ (k : ℕ). Takes m k) a.0 b.0)
-    ∙ acts-append kinds w (consume m a.0) (consume m b.0)
-    ∙ ap (λ (z : RunWorld). after_acts kinds z (consume m b.0)) (a.1 w m at)
-    ∙ b.1 u m next
-    ∙ seat-twice w m t v,
+  a.0 ++ b.0,
+  λ w m at.
+      let u = with_seat m t w in
+      let next : IsAt u m t = (still-there w m t at.0, seat-there w m t at.0, subst (λ (x : Member). length (committed x) ≤ length w.printed) (sym same) at.2) in
+      ap (after_acts kinds w) (map-append (λ (k : ℕ). Takes m k) a.0 b.0)
+      ∙ acts-append kinds w (consume m a.0) (consume m b.0)
+      ∙ ap (λ (z : RunWorld). after_acts kinds z (consume m b.0)) (a.1 w m at)
+      ∙ b.1 u m next
+      ∙ seat-twice w m t v,
 )
 
 -- ---- one entry

@@ -1,6 +1,6 @@
 -- One snapshot after the other is put, on both sides.
-use Rattle.std.proofs.Common.{◌≡◌, ℕ, suc, ◌+◌, ◌<◌, ◌≤◌, ℤ, pos, Bool, true, false, ◌&&◌, ◌||◌, List, [], ◌∷◌, ◌++◌, length, map, Some, refl, sym, ap, ◌∙◌, subst, arith, if◌then◌else◌}
-use Rattle.std.specs.Prelude.{Contains, IsTrue, nat_eq, slice_get}
+use Rattle.std.proofs.Common.{◌≡◌, ℕ, suc, ◌+◌, ◌≤◌, ℤ, pos, Bool, true, false, ◌&&◌, ◌||◌, List, [], ◌∷◌, ◌++◌, length, map, Some, refl, sym, ap, ◌∙◌, subst, arith, if◌then◌else◌}
+use Rattle.std.specs.Prelude.{Contains, IsTrue, nat_eq}
 use Rattle.std.specs.List.{list_any}
 use Rattle.std.proofs.lemmas.Bool.Decides.{nat_tests}
 use Rattle.std.proofs.lemmas.Int.{ints}
@@ -10,7 +10,6 @@ use Rattle.entry_log.specs.Durable.{Durable, SnapshotEntry, put_in, same_entry}
 use Rattle.entry_log.specs.Log.{Log, same_term}
 use Rattle.log_segment.specs.Held.{IsHeld, new_terms}
 use Rattle.recording_log.specs.declared.entry.RecEntry.{RecEntry}
-use Rattle.recording_log.specs.Listed.{IsThere}
 use Rattle.recording_log.specs.Valid.{is_snapshot as is_put}
 use Rattle.recording_log.proofs.StrikeLemmas.{snapshot_kind}
 use Rattle.member_disk.specs.Changes.{base_of, entry_for}
@@ -20,7 +19,6 @@ use Rattle.agreement.proofs.Snaps2.{same_term-is}
 use Rattle.consensus_core.specs.Member.{Member, Whole, puts}
 use Rattle.consensus_agent.specs.Disks.{IsRight}
 use Rattle.consensus_agent.specs.Written.{AreWritten, IsThereIn, IsWritten, Snapshot}
-use Rattle.node_state.specs.Node.{Node}
 use Rattle.run_world.proofs.Rows.{both}
 use Rattle.world.proofs.Rows.{and_true}
 use Rattle.service_api.specs.declared.shipped.Kind.{Kind}
@@ -37,7 +35,7 @@ use Rattle.module_state.specs.Entries.{IsWellFormedOn}
 use Rattle.run_orders.specs.Kept.{IsStateOf, IsStored}
 use Rattle.member_phases.specs.Snapshots.{HasBase, all_put, snap_in, snapshot_as}
 use Rattle.member_phases.proofs.Owed.{each-append}
-use Rattle.member_phases.proofs.Puts.{Found, NamedIn, any-there, counts, named-head, no-both, one-of, there-any}
+use Rattle.member_phases.proofs.Puts.{NamedIn, any-there, counts, named-head, no-both, one-of, there-any}
 
 -- ---- the same entry
 
@@ -76,8 +74,7 @@ module _ (kinds : List Kind) (log : Log) (few : length kinds ≤ 3) (formed : Is
       let is = each.0 in
       let apart : 258 + t.recording ≡ 258 + e.recording → ⊥ = λ h.
       let one : e ≡ t = one-of kinds log e t few name named.0 (omega (arith, h)) in
-      no-both (same_entry e t) (subst (λ (z : SnapshotEntry). same_entry e z ≡ true) one (same-by e e refl refl refl refl refl)) no_one.0 in
-      (
+      no-both (same_entry e t) (subst (λ (z : SnapshotEntry). same_entry e z ≡ true) one (same-by e e refl refl refl refl refl)) no_one.0 in (
         record { recording = is.recording; service = is.service; term = is.term; position = is.position; stamp = is.stamp; pieces = same (258 + t.recording) (omega arith) apart ∙ is.pieces },
         others-stored f g e name same es ts each.1 named.1 no_one.1,
       )
@@ -210,8 +207,8 @@ each-has P (x ∷ xs) all = (all x (0, omega arith, refl), each-has P xs (λ y h
 
 pub dues-named : (kinds : List Kind) (log : Log) (from n : ℕ) → Each (λ (z : Due). NamedIn kinds log z.snap) (due_in (rules_of kinds) log from n)
 dues-named kinds log from n = each-has (λ (z : Due). NamedIn kinds log z.snap) (due_in (rules_of kinds) log from n) (λ d has.
-  let z = due_in-ok (rules_of kinds) log from n d has in
-  (z.0, z.1, z.2, z.4, z.5, z.6, ap (λ (q : Due). q.snap) z.7, z.8))
+    let z = due_in-ok (rules_of kinds) log from n d has in
+    (z.0, z.1, z.2, z.4, z.5, z.6, ap (λ (q : Due). q.snap) z.7, z.8))
 
 pub snaps-named : (n : ℕ) (kinds : List Kind) (w : RunWorld) (m : ℕ) → Lawful n kinds w → Each (NamedIn kinds (seat w m).member.durable.log) (seat w m).member.durable.snapshots
 snaps-named n kinds w m lawful =

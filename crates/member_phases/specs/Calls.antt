@@ -1,5 +1,5 @@
 -- What a member's phase says of it, clause by clause.
-use Rattle.std.specs.Prelude.{◌≡◌, ℕ, ◌-◌, Bool, List, [], take, drop}
+use Rattle.std.specs.Prelude.{◌≡◌, ℕ, ◌-◌, Bool, List, take, drop}
 use Rattle.cl_base.specs.Disk.{DiskState}
 use Rattle.egress.specs.declared.sent.Sent.{Sent}
 use Rattle.entry_log.specs.Log.{Log}
