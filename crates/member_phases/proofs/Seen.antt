@@ -1,5 +1,5 @@
 -- A phase, in all that the driver has.
-use Rattle.std.proofs.Common.{◌≡◌, ℕ, zero, suc, Bool, true, List, [], ◌∷◌, ◌++◌, set, refl, sym, ap, ◌∙◌, subst, if◌then◌else◌}
+use Rattle.std.proofs.Common.{false, ◌≡◌, ℕ, zero, suc, Bool, true, List, [], ◌∷◌, ◌++◌, set, refl, sym, ap, ◌∙◌, subst, if◌then◌else◌}
 use Rattle.std.specs.Prelude.{is_some}
 use Rattle.std.specs.List.{filter, fold}
 use Rattle.std.proofs.lemmas.List.Elements.{filter-append}
@@ -13,7 +13,8 @@ use Rattle.service_runs.specs.Hosts.{Output}
 use Rattle.consensus_core.specs.Member.{Run}
 use Rattle.run_world.specs.RunWorld.{RunWorld, seat, with_records}
 use Rattle.run_orders.specs.Stands.{AreRecords, EndedSeen, IsEnded, IsRecord, IsSeat, RunSeen, Stands, UpSeen, has_entry, more_sent, parts_of}
-use Rattle.member_phases.specs.Phases.{IsPhase, phase_seen, resting_seat}
+use Rattle.member_rows.specs.Places.{running_seat}
+use Rattle.member_phases.specs.Phases.{IsPhase, phase_seen}
 use Rattle.member_phases.specs.Seats.{with_seat}
 use Rattle.member_phases.proofs.Owed.{each-append}
 
@@ -46,11 +47,11 @@ each-set R (a ∷ xs) (b ∷ ys) zero x y each is = (is, each.1)
 each-set R (a ∷ xs) (b ∷ ys) (suc i) x y each is = (each.0, each-set R xs ys i x y each.1 is)
 
 module _ {D : Type 0} (state : D → DiskState) (kinds : List Kind) where
-  pub phase-stands : (x : RunSeen D) (w : RunWorld) (m : ℕ) (u v : UpSeen D) (sent : List Sent) (choice : Choice) (ended : List EndedSeen) → Stands state kinds x w → IsSeat state kinds (resting_seat choice ended u) (seat w m)
-      → (p : IsPhase state kinds m u v sent w) → Stands state kinds (phase_seen m (resting_seat choice ended v) sent x) (with_records p.records (with_seat m p.after w))
+  pub phase-stands : (x : RunSeen D) (w : RunWorld) (m : ℕ) (u v : UpSeen D) (sent : List Sent) (choice : Choice) (ended : List EndedSeen) → Stands state kinds x w → IsSeat state kinds (running_seat choice ended u false) (seat w m)
+      → (p : IsPhase state kinds m u v sent w) → Stands state kinds (phase_seen m (running_seat choice ended v false) sent x) (with_records p.records (with_seat m p.after w))
   phase-stands x w m u v sent choice ended stands is p = record {
     now = stands.now;
-    seats = each-set (IsSeat state kinds) x.seats w.seats m (resting_seat choice ended v) p.after stands.seats (record {
+    seats = each-set (IsSeat state kinds) x.seats w.seats m (running_seat choice ended v false) p.after stands.seats (record {
       home = p.up;
       faults = p.faults choice is.faults;
       ended = subst (λ (l : List Run). Each2 IsEnded ended (parts_of l)) (sym p.ended) is.ended;

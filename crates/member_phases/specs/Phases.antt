@@ -10,12 +10,8 @@ use Rattle.run_world.specs.Seat.{Seat}
 use Rattle.run_world.specs.Rounds.{Phased}
 use Rattle.run_world.specs.RunWorld.{RunWorld, seat, with_records}
 use Rattle.run_orders.specs.Kept.{HasFaults}
-use Rattle.run_orders.specs.Stands.{EndedSeen, IsRecord, IsUp, RunSeen, SeatSeen, Up, UpSeen, more_sent}
+use Rattle.run_orders.specs.Stands.{IsRecord, IsUp, RunSeen, SeatSeen, UpSeen, more_sent}
 use Rattle.member_phases.specs.Seats.{with_seat}
-
--- a member that runs, between two phases
-abbrev pub resting_seat : {D : Type 0} → Choice → List EndedSeen → UpSeen D → SeatSeen D
-resting_seat choice ended u = record { home = Up u false; choice = choice; ended = ended }
 
 -- the driver once member m is this and these records are sent
 abbrev pub phase_seen : {D : Type 0} → ℕ → SeatSeen D → List Sent → RunSeen D → RunSeen D

@@ -25,9 +25,10 @@ ghost use Rattle.entry_log.specs.Shape.{shape_of};
 ghost use Rattle.cl_base.specs.declared.disk.Choice.{Choice};
 ghost use Rattle.egress.specs.Streams.{StreamSeen};
 ghost use Rattle.egress.specs.declared.sent.Sent.{Sent};
+ghost use Rattle.member_rows.specs.Places.{running_seat};
 ghost use Rattle.member_phases.specs.Calls.{IsBetween, PhaseDone, commit_of};
 ghost use Rattle.member_phases.specs.Grown.{GrewTo};
-ghost use Rattle.member_phases.specs.Phases.{IsPhase, phase_seen, resting_seat};
+ghost use Rattle.member_phases.specs.Phases.{IsPhase, phase_seen};
 ghost use Rattle.member_phases.specs.Seats.{all_fed, with_seat};
 ghost use Rattle.member_phases.specs.Snapshots.{HasBase, snap_in, snapshot_as};
 
@@ -79,6 +80,6 @@ pub fn a_phase_is_acts<D: Disk>()
 /// What a driver has stands to the world still once a member's phase is over on both sides and its records are sent.
 pub fn a_phase_is_seen<D: Disk>()
     ensures records { (streams : List StreamSeen) (records more : List Output) (sent : List Sent) → AreRecords streams records → Each2 IsRecord more sent → AreRecords (fold more_sent streams sent) (records ++ more) }
-    ensures stands { (kinds : List Kind) (x : RunSeen D) (w : RunWorld) (m : ℕ) (u v : UpSeen D) (sent : List Sent) (choice : Choice) (ended : List EndedSeen) → Stands D.state kinds x w → IsSeat D.state kinds (resting_seat choice ended u) (seat w m)
-        → (p : IsPhase D.state kinds m u v sent w) → Stands D.state kinds (phase_seen m (resting_seat choice ended v) sent x) (with_records p.records (with_seat m p.after w)) }
+    ensures stands { (kinds : List Kind) (x : RunSeen D) (w : RunWorld) (m : ℕ) (u v : UpSeen D) (sent : List Sent) (choice : Choice) (ended : List EndedSeen) → Stands D.state kinds x w → IsSeat D.state kinds (running_seat choice ended u false) (seat w m)
+        → (p : IsPhase D.state kinds m u v sent w) → Stands D.state kinds (phase_seen m (running_seat choice ended v false) sent x) (with_records p.records (with_seat m p.after w)) }
 {}
