@@ -1,9 +1,8 @@
 -- The snapshot actions of a log, as its module counts them.
-use Rattle.std.proofs.Common.{◌≡◌, ℕ, zero, suc, ◌+◌, ◌-◌, ◌<◌, ◌≤◌, ◌^◌, ℤ, Bool, true, false, List, [], ◌∷◌, ◌++◌, length, map, take, drop, min, Option, Some, refl, sym, ap, ◌∙◌, subst, arith, append_assoc, if◌then◌else◌}
+use Rattle.std.proofs.Common.{◌≡◌, ℕ, zero, suc, ◌+◌, ◌-◌, ◌<◌, ◌≤◌, ◌^◌, ℤ, Bool, List, [], ◌∷◌, ◌++◌, length, map, take, drop, min, Option, refl, sym, ap, ◌∙◌, subst, arith, append_assoc, if◌then◌else◌}
 use Rattle.std.specs.Prelude.{slice_get}
 use Rattle.std.specs.List.{AllByRecursion}
 use Rattle.std.proofs.lemmas.List.{append-nil, take-append-drop}
-use Rattle.cl_base.specs.declared.entry.Entry.{Entry}
 use Rattle.entry_log.specs.Log.{Log}
 use Rattle.sbe_events.specs.declared.event.Event.{Event}
 use Rattle.sbe_events.specs.declared.event.Event.TheVariants as events
@@ -14,7 +13,7 @@ use Rattle.service_api.specs.Shipped.{first_of}
 use Rattle.service_runs.specs.Hosts.{Rules, actions}
 use Rattle.module_state.specs.Allowed.{AllowedFrom, IsAllowed}
 use Rattle.module_state.specs.Counts.{Counts, counts_after}
-use Rattle.module_state.specs.Entries.{IsSpellable, IsWellFormedOn, events_in}
+use Rattle.module_state.specs.Entries.{IsWellFormedOn, events_in}
 use Rattle.module_state.specs.Logs.{IsWellFormedLog, MayFollowLog, services_over}
 use Rattle.module_state.specs.Module.{Module, module_after, module_part}
 use Rattle.module_state.specs.Part.{Asked, History, Taken, after_asks}
@@ -24,7 +23,7 @@ use Rattle.module_state.proofs.LogLaws.{front_well_formed, whole}
 use Rattle.module_state.proofs.Runs.{asks_keep}
 use Rattle.module_state.proofs.StepLaws.{module_push}
 use Rattle.one_log.specs.Ruled.{is_snapshot, rules_of}
-use Rattle.member_phases.proofs.Events.{all-front, all-spelled, entry-there, front-long, front-more, log-long, some_of, there}
+use Rattle.member_phases.proofs.Events.{all-front, all-spelled, entry-there, front-more, some_of, there}
 
 -- ---- one event more is allowed
 
@@ -71,7 +70,7 @@ module _ (kinds : List Kind) (log : Log) (formed : IsWellFormedOn kinds log) whe
   abbrev r : Rules
   r = rules_of kinds
 
-  spelled-at : (k : ℕ) (e : Event) → slice_get es k ≡ some_of e → HasSpelling e
+  pub spelled-at : (k : ℕ) (e : Event) → slice_get es k ≡ some_of e → HasSpelling e
   spelled-at k e at = last (take k es) (subst (AllByRecursion HasSpelling) (front-more es k e at) (all-front HasSpelling es (suc k) (all-spelled es formed.spellable)))
     where
       last : (xs : List Event) → AllByRecursion HasSpelling (xs ++ e ∷ []) → HasSpelling e

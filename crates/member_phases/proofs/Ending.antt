@@ -1,6 +1,6 @@
 -- The acts of a whole phase.
-use Rattle.std.proofs.Common.{◌≡◌, ℕ, ◌<◌, ◌≤◌, ℤ, Bool, true, false, ◌&&◌, List, [], ◌∷◌, ◌++◌, length, map, take, Option, None, refl, sym, ap, ◌∙◌, subst, arith, if◌then◌else◌}
-use Rattle.std.specs.Prelude.{Contains, nat_eq, nat_lt}
+use Rattle.std.proofs.Common.{◌≡◌, ℕ, ◌<◌, ◌≤◌, ℤ, Bool, true, false, List, [], ◌∷◌, length, map, take, Option, None, refl, sym, ap, ◌∙◌, subst, arith, if◌then◌else◌}
+use Rattle.std.specs.Prelude.{nat_eq, nat_lt}
 use Rattle.std.proofs.lemmas.Bool.Decides.{nat_tests}
 use Rattle.entry_log.specs.Log.{Log}
 use Rattle.service_api.specs.declared.shipped.Kind.{Kind}
@@ -12,12 +12,12 @@ use Rattle.service_runs.proofs.Lists.{take-length}
 use Rattle.one_log.specs.Ruled.{rules_of}
 use Rattle.run_world.specs.Lawful.{Lawful}
 use Rattle.run_world.specs.Rounds.{Phased, consume, phase_over, put_all}
-use Rattle.run_world.specs.Seat.{Fate, Faults, Phase, Rests, Goes, Ends, Seat, becomes, closed, faults_left, halted, is_resting, opened, sent as at_its_end, went_on, written}
-use Rattle.run_world.specs.RunWorld.{Act, Begins, Closes, RunWorld, Sends, Writes, after_acts, closes, committed, does, is_up, put, seat, sends, with_records, writes}
+use Rattle.run_world.specs.Seat.{Fate, Faults, Phase, Rests, Ends, Seat, becomes, closed, faults_left, halted, is_resting, opened, sent as at_its_end, went_on, written}
+use Rattle.run_world.specs.RunWorld.{Begins, Closes, RunWorld, Sends, Writes, after_acts, closes, committed, does, is_up, put, seat, sends, with_records, writes}
 use Rattle.run_world.proofs.Rows.{both}
 use Rattle.member_phases.specs.Seats.{all_fed, with_seat}
-use Rattle.member_phases.proofs.Takes.{Feeds, IsAt, seat-feeds}
-use Rattle.member_phases.proofs.Worlds.{IsFront, commit-low, inputs-front, printed-all, put-is, seat-there, seat-twice, still-there, up-there}
+use Rattle.member_phases.proofs.Takes.{Feeds, seat-feeds}
+use Rattle.member_phases.proofs.Worlds.{commit-low, inputs-front, printed-all, put-is, seat-there, seat-twice, still-there, up-there}
 
 reach : (commit : ℕ) (log : Log) (xss : List Log) → commit ≤ length log → all_reach commit (map (λ (xs : Log). take commit log) xss) ≡ true
 reach commit log [] low = refl

@@ -1,5 +1,5 @@
 -- The records that a service left at an action.
-use Rattle.std.proofs.Common.{◌≡◌, ℕ, zero, suc, ◌+◌, ◌-◌, ◌<◌, ◌≤◌, ◌==◌, ℤ, Bool, true, false, List, [], ◌∷◌, ◌++◌, length, take, drop, Option, Some, None, refl, sym, ap, ◌∙◌, subst, arith, zero-add, if◌then◌else◌}
+use Rattle.std.proofs.Common.{◌≡◌, ℕ, zero, suc, ◌+◌, ◌-◌, ◌<◌, ◌≤◌, ◌==◌, ℤ, Bool, true, false, List, [], ◌∷◌, ◌++◌, length, take, drop, Option, Some, None, refl, sym, ap, ◌∙◌, arith, zero-add, if◌then◌else◌}
 use Rattle.std.specs.Prelude.{slice_get}
 use Rattle.std.proofs.lemmas.Bool.Decides.{nat_tests}
 use Rattle.std.proofs.lemmas.List.{take-take}
@@ -15,7 +15,7 @@ use Rattle.service_api.specs.declared.shipped.Shipped.{Shipped}
 use Rattle.service_api.specs.Service.{at_entry, state_from, state_of}
 use Rattle.service_api.specs.Shipped.{first_of, spelled_of}
 use Rattle.service_container.specs.Held.{Held}
-use Rattle.service_container.specs.Records.{found_at, left_at, left_by, records_from}
+use Rattle.service_container.specs.Records.{found_at, left_by, records_from}
 use Rattle.service_runs.proofs.Lists.{take-length}
 use Rattle.member_phases.proofs.Events.{get-front, get-past, some-is, some_of}
 use Rattle.member_phases.proofs.Grown.{state-append}

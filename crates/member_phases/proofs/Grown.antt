@@ -1,6 +1,6 @@
 -- Containers that consumed the log up to the commit.
-use Rattle.std.proofs.Common.{◌≡◌, ℕ, zero, suc, ◌+◌, ◌-◌, ◌≤◌, true, List, [], ◌∷◌, ◌++◌, length, map, take, drop, refl, sym, ap, ◌∙◌, subst, arith, add-zero, zero-add, length-append, append_assoc}
-use Rattle.std.proofs.lemmas.List.{drop-take, take-append-drop, take-map, take-take}
+use Rattle.std.proofs.Common.{◌≡◌, ℕ, zero, suc, ◌+◌, ◌-◌, ◌≤◌, List, [], ◌∷◌, ◌++◌, length, map, take, drop, refl, sym, ap, ◌∙◌, subst, arith, add-zero, zero-add, length-append, append_assoc}
+use Rattle.std.proofs.lemmas.List.{drop-take, take-map, take-take}
 use Rattle.std.proofs.Math.Seq.{drop-append_seam, take-append_seam}
 use Rattle.cl_base.specs.declared.entry.Entry.{Entry}
 use Rattle.entry_log.specs.Log.{Log}
@@ -8,11 +8,10 @@ use Rattle.consensus_agent.specs.Consumed.{HaveRising, outboxes}
 use Rattle.module_state.specs.Entries.{events_in}
 use Rattle.module_state.specs.Places.{entry_of, log_of}
 use Rattle.owed_egress.specs.Outbox.{IndicesRise}
-use Rattle.owed_egress.specs.Taken.{Outboxes, outboxes_from, outboxes_in, states_over}
+use Rattle.owed_egress.specs.Taken.{outboxes_from, outboxes_in}
 use Rattle.owed_egress.proofs.Rising.{rise_outbox}
 use Rattle.run_orders.specs.Stands.{HasInput, HaveInputs}
 use Rattle.run_phases.specs.Grown.{Grew}
-use Rattle.service_api.specs.declared.output.Output.{Output}
 use Rattle.service_api.specs.declared.shipped.Kind.{Kind}
 use Rattle.service_api.specs.declared.shipped.Shipped.{Shipped}
 use Rattle.service_api.specs.Service.{at_entry, outbox_from, state_from, state_of}

@@ -11,3 +11,6 @@ pub mod Phased
 pub mod Counted
 pub mod Found
 pub mod Snapped
+pub mod Puts
+pub mod Written
+pub mod Seen

@@ -6,7 +6,6 @@ use Rattle.service_api.specs.declared.shipped.Kind.{Kind}
 use Rattle.service_container.specs.Held.{Held}
 use Rattle.consensus_agent.specs.Consumed.{outboxes}
 use Rattle.module_state.specs.Entries.{IsWellFormedOn, events_in}
-use Rattle.module_state.specs.Module.{Module}
 use Rattle.module_state.specs.Services.{module_of}
 use Rattle.owed_egress.specs.Taken.{Outboxes, module_over, outboxes_in}
 use Rattle.owed_egress.proofs.Asked.{module_goes_on}

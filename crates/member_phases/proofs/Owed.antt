@@ -17,25 +17,25 @@ use Rattle.service_api.specs.declared.shipped.Shipped.{Shipped}
 use Rattle.service_api.specs.Service.{at_entry, outbox_from, outputs_from, outputs_of as service_outputs, state_from, state_of}
 use Rattle.service_api.specs.Shipped.{first_of}
 use Rattle.service_phases.specs.Pairs.{Each2}
-use Rattle.service_runs.specs.Hosts.{Rules, Output, by_seat, numbered, of_term, sent_at, sent_in}
+use Rattle.service_runs.specs.Hosts.{Rules, Output, by_seat, numbered, sent_at, sent_in}
 use Rattle.module_state.specs.Entries.{IsWellFormedOn, events_in}
 use Rattle.module_state.specs.Module.{Module, module_after, module_part}
 use Rattle.module_state.specs.Outputs.{outputs_of}
 use Rattle.module_state.specs.Owed.{Sending, owed_by_module, owed_by_outputs}
-use Rattle.module_state.specs.OwedIn.{module_owes, owed_of_module, owed_of_service, service_owes}
+use Rattle.module_state.specs.OwedIn.{module_owes, owed_of_module, service_owes}
 use Rattle.module_state.specs.Part.{after_asks}
 use Rattle.module_state.specs.Places.{entry_of, log_of}
 use Rattle.module_state.specs.Services.{asks_of, module_of}
 use Rattle.module_state.proofs.StepLaws.{module_push}
 use Rattle.one_log.specs.Ruled.{owed_by, record_of, rules_of, sendings}
 use Rattle.owed_egress.specs.Outbox.{outputs_in}
-use Rattle.owed_egress.specs.Records.{numbered as numbered_sent, output_in, owed_outputs, sends_of, sent_of}
+use Rattle.owed_egress.specs.Records.{numbered as numbered_sent, output_in, sends_of, sent_of}
 use Rattle.owed_egress.specs.Taken.{Outboxes, module_over, outboxes_from, outboxes_in, sent_at as sent_there, sent_by_services, sent_over, sent_with, states_over}
 use Rattle.owed_egress.proofs.Asked.{module_goes_on}
 use Rattle.owed_egress.proofs.Over.{sent_next}
 use Rattle.owed_egress.proofs.Rising.{outputs_found}
 use Rattle.run_orders.specs.Stands.{IsRecord, service_at, term_led}
-use Rattle.member_phases.proofs.Events.{all-front, all-spelled, entry-there, front-events, front-log, front-long, front-more, get-front, get-past, log-long, some_of, there}
+use Rattle.member_phases.proofs.Events.{all-front, all-spelled, entry-there, front-events, front-long, front-more, get-front, get-past, log-long, some_of, there}
 use Rattle.member_phases.proofs.Sessions.{asks-alike, owed-alike}
 
 -- ---- pairs

@@ -1,29 +1,26 @@
 -- A whole phase, on both sides.
-use Rattle.std.proofs.Common.{◌≡◌, ℕ, zero, suc, ◌+◌, ◌-◌, ◌<◌, ◌≤◌, ℤ, Bool, true, false, List, [], ◌∷◌, ◌++◌, length, map, take, drop, Option, Some, None, refl, sym, ap, ◌∙◌, subst, arith, length-append, length-drop, if◌then◌else◌}
-use Rattle.std.specs.Prelude.{Contains, IsTrue, nat_le, slice_get}
+use Rattle.std.proofs.Common.{◌≡◌, ℕ, zero, suc, ◌+◌, ◌≤◌, ℤ, Bool, true, false, List, [], ◌∷◌, ◌++◌, length, map, take, drop, Option, Some, None, refl, sym, ap, ◌∙◌, subst, arith, length-append, length-drop, if◌then◌else◌}
+use Rattle.std.specs.Prelude.{IsTrue, nat_le, slice_get}
 use Rattle.std.proofs.lemmas.Bool.Decides.{nat_tests}
-use Rattle.std.proofs.lemmas.List.{drop-drop, length-map}
+use Rattle.std.proofs.lemmas.List.{drop-drop}
 use Rattle.std.proofs.Math.Seq.{drop-append_seam}
 use Rattle.cl_base.specs.Disk.{DiskState}
-use Rattle.commit_counter.specs.declared.role.Role.{Role}
 use Rattle.commit_counter.specs.declared.role.Role.TheVariants.{Follower, Leader}
 use Rattle.egress.specs.declared.sent.Sent.{Sent}
 use Rattle.entry_log.specs.Log.{Log}
-use Rattle.entry_log.specs.Shape.{entry_shape, shape_of}
-use Rattle.log_replication.specs.Prefixes.{Leads}
+use Rattle.entry_log.specs.Shape.{shape_of}
 use Rattle.member_disk.specs.Kept.{Held as DiskHeld, EachStands}
 use Rattle.sbe_events.specs.declared.event.Event.{Event}
 use Rattle.service_api.specs.declared.shipped.Kind.{Kind}
-use Rattle.service_container.specs.Held.{Held as ContainerHeld, consumed_to}
+use Rattle.service_container.specs.Held.{Held as ContainerHeld}
 use Rattle.service_phases.specs.Pairs.{Each, Each2}
-use Rattle.service_phases.specs.Phases.{HasAll, IsAt, IsWithin}
+use Rattle.service_phases.specs.Phases.{IsAt, IsWithin}
 use Rattle.service_runs.proofs.Lists.{take-length}
 use Rattle.service_runs.specs.Hosts.{Due, Output, Rules, due_in, due_of, role_of, sent_in}
 use Rattle.consensus_core.specs.declared.values.Values.{Values}
 use Rattle.consensus_core.specs.Fit.{Held as CoreHeld}
 use Rattle.consensus_core.specs.Member.{Member, Whole, is_ready}
 use Rattle.consensus_agent.specs.Consumed.{outboxes, role_in}
-use Rattle.consensus_agent.specs.Phases.{stage}
 use Rattle.module_state.specs.Entries.{IsWellFormedOn, events_in}
 use Rattle.module_state.specs.Module.{Module}
 use Rattle.module_state.specs.Services.{module_of}
@@ -32,22 +29,23 @@ use Rattle.one_log.specs.Led.{led, turns}
 use Rattle.one_log.proofs.Turns.{logs-formed, stays}
 use Rattle.owed_egress.specs.Taken.{module_over, sent_over}
 use Rattle.run_world.specs.Lawful.{Lawful}
-use Rattle.run_world.specs.Seat.{Fate, Faults, Seat, Rests}
+use Rattle.run_world.specs.Seat.{Fate, Faults, Seat}
 use Rattle.run_world.specs.RunWorld.{RunWorld, seat}
 use Rattle.run_world.proofs.Shown.{member-shown}
 use Rattle.run_orders.specs.Kept.{HasFaults, IsMountable, IsStateOf}
-use Rattle.run_orders.specs.Stands.{HasInput, HaveInputs, HasModule, IsRecord, IsUp, UpSeen, term_led}
-use Rattle.member_phases.specs.Calls.{IsBetween, PhaseDone, behind, commit_of, snapshots_due, stage_of}
+use Rattle.run_orders.specs.Stands.{HasInput, HaveInputs, IsRecord, IsUp, UpSeen, term_led}
+use Rattle.member_phases.specs.Calls.{IsBetween, PhaseDone, behind, commit_of, snapshots_due}
 use Rattle.member_phases.specs.Grown.{GrewTo}
 use Rattle.member_phases.specs.Phases.{IsPhase}
-use Rattle.member_phases.specs.Seats.{all_fed, with_seat}
 use Rattle.member_phases.proofs.Ending.{after, after-puts, left-after, phase-plain, phase-whole, put-keeps, records}
-use Rattle.member_phases.proofs.Events.{log-long, rest-events}
+use Rattle.member_phases.proofs.Events.{rest-events}
 use Rattle.member_phases.proofs.Grown.{grown, take-on}
 use Rattle.member_phases.proofs.Moduled.{module-grown}
 use Rattle.member_phases.proofs.Owed.{none-below}
 use Rattle.member_phases.proofs.Recorded.{records-each, snapshots-each}
-use Rattle.member_phases.specs.Snapshots.{HasPut, all_put, snap_in, snapshot_as}
+use Rattle.member_phases.specs.Snapshots.{HasBase, all_put, snap_in, snapshot_as}
+use Rattle.member_disk.specs.CutWell.{snapshots_of as snapshots_kept}
+use Rattle.member_phases.proofs.Written.{Keeps, all-kept, dues-named, snaps-named}
 use Rattle.consensus_agent.specs.Disks.{IsRight}
 use Rattle.cl_base.specs.declared.disk.Choice.{Choice}
 use Rattle.consensus_agent.specs.Written.{AreWritten, IsThereIn, IsWritten, Snapshot, actions_over, snapshots_of}
@@ -356,31 +354,40 @@ module _ {D : Type 0} (state : D → DiskState) (is_told is_honest : D → Bool)
     abbrev fate : Fate
     fate = record { cut = Whole; lets = (state v.disk.disk).lets; own = (state v.disk.disk).own_faults }
 
-    pub written-phase : IsTrue (is_honest u.disk.disk) → HasPut state kinds v (all_put (due_in (rules_of kinds) past s.applied s.member.values.rest.commit) s.member) → IsPhase state kinds m u v sent w
-    written-phase honest put = record {
-      after = after-puts n kinds w m lawful up.up up.phase count fate;
-      records = records n kinds w m lawful up.up up.phase count;
-      phased = phase-whole n kinds w m lawful up.up up.phase count fate refl;
-      up = up-after (all_put due_here s.member) (left-after n kinds w m lawful up.up up.phase count fate due_here s.faults) (keeps.0 ∙ up.up) keeps.1 keeps.2 put.mountable put.each put.durable;
-      each = new-records;
-      ended = refl;
-      faults = λ choice has. by due_here (snapshots-are) choice has;
-    }
-      where
-        due_here : List Due
-        due_here = due_in (rules_of kinds) past s.applied s.member.values.rest.commit
+    module _ (honest : IsTrue (is_honest u.disk.disk)) (told : IsTrue (is_told u.disk.disk)) (bases : Each (HasBase past) (snapshots_kept u.disk.kept.entries)) where
+      abbrev due_here : List Due
+      due_here = due_in (rules_of kinds) past s.applied s.member.values.rest.commit
 
-        keeps : ((all_put due_here s.member).up ≡ s.member.up) × ((all_put due_here s.member).values ≡ s.member.values) × ((all_put due_here s.member).durable.log ≡ s.member.durable.log)
-        keeps = put-keeps n kinds w m lawful up.up up.phase count due_here s.member
+      right : IsRight state is_told is_honest u.disk
+      right = record { honest = honest; each = up.each; terms = up.mountable.terms }
 
-        right : IsRight state is_told is_honest u.disk
-        right = record { honest = honest; each = up.each; terms = up.mountable.terms }
+      -- its disk stands for the member that put all
+      kept-on : Keeps kinds past three formed state is_told is_honest v.disk (all_put due_here s.member).durable
+      kept-on = all-kept kinds past three formed state is_told is_honest due_here (snapshots_due u v) u.disk v.disk s.member snapshots-are (dues-named kinds past s.applied s.member.values.rest.commit)
+          (record { right = right; told = told; count = up.mountable.count; held = up.mountable.held; same_log = sym up.durable.log; durable = up.durable; bases = bases; named = snaps-named n kinds w m lawful }) d.written
 
-        none : (ss : List Snapshot) → map snapshot_as ss ≡ [] → AreWritten state is_told is_honest ss u.disk v.disk → v.disk ≡ u.disk
-        none [] e same = same
-        none (x ∷ ss) e same = absurd (cc)
+      pub bases-stay : Each (HasBase past) (snapshots_kept v.disk.kept.entries)
+      bases-stay = kept-on.bases
 
-        by : (ds : List Due) → map snapshot_as (snapshots_due u v) ≡ map snap_in ds → (choice : Choice) → HasFaults (state u.disk.disk) choice s.faults
-            → HasFaults (state v.disk.disk) choice (left-after n kinds w m lawful up.up up.phase count fate ds s.faults)
-        by [] e choice has = subst (λ (h : DiskHeld D). HasFaults (state h.disk) choice s.faults) (sym (none (snapshots_due u v) e d.written)) has
-        by (x ∷ ds) e choice has = record { lets = refl; left = has.left; own = refl; alive = all-alive (snapshots_due u v) u.disk v.disk right d.written has.alive }
+      pub written-phase : IsPhase state kinds m u v sent w
+      written-phase = record {
+        after = after-puts n kinds w m lawful up.up up.phase count fate;
+        records = records n kinds w m lawful up.up up.phase count;
+        phased = phase-whole n kinds w m lawful up.up up.phase count fate refl;
+        up = up-after (all_put due_here s.member) (left-after n kinds w m lawful up.up up.phase count fate due_here s.faults) (keeps.0 ∙ up.up) keeps.1 keeps.2 (record { count = kept-on.count; held = kept-on.held; terms = kept-on.right.terms }) kept-on.right.each kept-on.durable;
+        each = new-records;
+        ended = refl;
+        faults = λ choice has. by due_here snapshots-are choice has;
+      }
+        where
+          keeps : ((all_put due_here s.member).up ≡ s.member.up) × ((all_put due_here s.member).values ≡ s.member.values) × ((all_put due_here s.member).durable.log ≡ s.member.durable.log)
+          keeps = put-keeps n kinds w m lawful up.up up.phase count due_here s.member
+
+          none : (ss : List Snapshot) → map snapshot_as ss ≡ [] → AreWritten state is_told is_honest ss u.disk v.disk → v.disk ≡ u.disk
+          none [] e same = same
+          none (x ∷ ss) e same = absurd (cc)
+
+          by : (ds : List Due) → map snapshot_as (snapshots_due u v) ≡ map snap_in ds → (choice : Choice) → HasFaults (state u.disk.disk) choice s.faults
+              → HasFaults (state v.disk.disk) choice (left-after n kinds w m lawful up.up up.phase count fate ds s.faults)
+          by [] e choice has = subst (λ (h : DiskHeld D). HasFaults (state h.disk) choice s.faults) (sym (none (snapshots_due u v) e d.written)) has
+          by (x ∷ ds) e choice has = record { lets = refl; left = has.left; own = refl; alive = all-alive (snapshots_due u v) u.disk v.disk right d.written has.alive }

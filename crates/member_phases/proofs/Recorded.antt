@@ -1,5 +1,5 @@
 -- The records that a phase sends.
-use Rattle.std.proofs.Common.{◌≡◌, ℕ, suc, ◌+◌, ◌-◌, ◌≤◌, List, [], ◌∷◌, length, map, take, drop, sym, ap, ◌∙◌, subst, arith}
+use Rattle.std.proofs.Common.{◌≡◌, ℕ, ◌+◌, ◌-◌, ◌≤◌, List, [], ◌∷◌, length, map, take, drop, sym, ap, ◌∙◌, subst, arith}
 use Rattle.commit_counter.specs.declared.role.Role.{Role}
 use Rattle.consensus_agent.specs.Consumed.{outboxes}
 use Rattle.egress.specs.declared.sent.Sent.{Sent}

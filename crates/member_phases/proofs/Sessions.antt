@@ -1,6 +1,6 @@
 -- What the services ask at an entry changes no session's stream, so nothing of what they owe there.
-use Rattle.std.proofs.Common.{◌≡◌, ℕ, ℤ, Bool, true, false, List, [], ◌∷◌, ◌++◌, map, length, Option, Some, None, refl, sym, ap, ◌∙◌, cond, if◌then◌else◌}
-use Rattle.std.specs.Prelude.{find, nat_le}
+use Rattle.std.proofs.Common.{◌≡◌, ℕ, ℤ, Bool, true, false, List, [], ◌∷◌, ◌++◌, map, Option, Some, None, refl, ap, ◌∙◌, if◌then◌else◌}
+use Rattle.std.specs.Prelude.{find}
 use Rattle.sbe_events.specs.declared.event.Event.{Event}
 use Rattle.sbe_events.specs.Spelling.{term_of}
 use Rattle.sbe_local.specs.declared.command.Command.{Command}
@@ -10,8 +10,8 @@ use Rattle.service_api.specs.declared.output.Output.TheVariants as outputs
 use Rattle.session_manager.specs.declared.session.Session.{Session}
 use Rattle.session_manager.specs.Sessions.{SessionTable, at_id, is_of, marked, session_of}
 use Rattle.module_state.specs.Dispatch.{sessions_asked}
-use Rattle.module_state.specs.Module.{Module, module_asked, module_part}
-use Rattle.module_state.specs.Owed.{Sending, message_to, owed_by_outputs}
+use Rattle.module_state.specs.Module.{Module, module_part}
+use Rattle.module_state.specs.Owed.{message_to, owed_by_outputs}
 use Rattle.module_state.specs.Part.{Asked, after_asks}
 use Rattle.module_state.specs.Places.{stamp_of}
 use Rattle.module_state.proofs.Runs.{asks_keep}

@@ -1,15 +1,13 @@
 -- The snapshots of a phase are those that are due.
-use Rattle.std.proofs.Common.{◌≡◌, ℕ, zero, suc, ◌+◌, ◌-◌, ◌*◌, ◌<◌, ◌≤◌, ℤ, pos, negsuc, Bool, true, false, ◌&&◌, List, [], ◌∷◌, ◌++◌, length, map, take, drop, Option, Some, None, refl, sym, ap, ◌∙◌, subst, arith, add-one, add-zero, zero-add, append_assoc, if◌then◌else◌}
+use Rattle.std.proofs.Common.{◌≡◌, ℕ, zero, suc, ◌+◌, ◌-◌, ◌*◌, ◌<◌, ◌≤◌, ℤ, pos, negsuc, Bool, true, false, ◌&&◌, List, [], ◌∷◌, ◌++◌, length, map, take, drop, Option, refl, sym, ap, ◌∙◌, arith, add-one, add-zero, zero-add, append_assoc, if◌then◌else◌}
 use Rattle.std.specs.Prelude.{nat_le, nat_lt, slice_get}
 use Rattle.std.proofs.lemmas.Bool.Decides.{nat_tests}
 use Rattle.std.proofs.lemmas.List.{append-nil, map-append, take-map}
 use Rattle.cl_base.specs.declared.entry.Entry.{Entry}
-use Rattle.entry_log.specs.Durable.{SnapshotEntry}
 use Rattle.entry_log.specs.Log.{Log, last, place}
-use Rattle.entry_log.specs.Shape.{Shape, end_from-shape_of, end_of, entry_shape, shape_of}
+use Rattle.entry_log.specs.Shape.{end_from-shape_of, end_of, entry_shape, shape_of}
 use Rattle.sbe_events.specs.declared.event.Event.{Event}
 use Rattle.sbe_events.specs.declared.event.Event.TheVariants as events
-use Rattle.sbe_events.specs.Spelling.{event_of}
 use Rattle.sbe_local.specs.declared.piece.Piece.{Piece}
 use Rattle.sbe_local.specs.declared.piece.Piece.TheVariants.{Marker, ServiceState}
 use Rattle.sbe_local.specs.declared.piece.Mark.TheVariants.{Begin, End}
@@ -22,7 +20,6 @@ use Rattle.service_container.specs.Records.{found_at}
 use Rattle.service_runs.specs.Hosts.{Due, Rules, actions, due_for, due_in, due_of, service_of, services_due}
 use Rattle.service_runs.proofs.Lists.{last-of_snoc}
 use Rattle.snapshot_pieces.specs.Pieces.{between, service_pieces_of}
-use Rattle.consensus_agent.specs.Consumed.{outboxes}
 use Rattle.consensus_agent.specs.Written.{Snapshot, action_at, action_with, actions_over, module_snapshot, origin_at, head_at, service_snapshots, snapshot_with, snapshots_of}
 use Rattle.consensus_agent.specs.declared.snapshots.Action.{Action}
 use Rattle.consensus_agent.proofs.Writing.{actions_next}
@@ -32,10 +29,10 @@ use Rattle.module_state.specs.Places.{entry_of}
 use Rattle.module_state.specs.Recorded.{pieces_of}
 use Rattle.module_state.specs.Services.{module_of}
 use Rattle.one_log.specs.Ruled.{is_snapshot, pieces_in, records_of, rules_of, stamp_in, state_pieces}
-use Rattle.owed_egress.specs.Taken.{Outboxes, module_over, module_with, outboxes_in}
+use Rattle.owed_egress.specs.Taken.{module_over, module_with, outboxes_in}
 use Rattle.owed_egress.proofs.Asked.{module_goes_on}
 use Rattle.owed_egress.proofs.Over.{over_next}
-use Rattle.run_orders.specs.Stands.{HasInput, HaveInputs}
+use Rattle.run_orders.specs.Stands.{HaveInputs}
 use Rattle.member_phases.specs.Snapshots.{snap_in, snapshot_as}
 use Rattle.member_phases.proofs.Counted.{counts-it, event-at, few-before}
 use Rattle.member_phases.proofs.Events.{all-spelled, entry-there, front-events, front-more, get-past, log-long, some_of, there}
@@ -59,6 +56,17 @@ snapshots-append ds [] bs = refl
 snapshots-append ds (a ∷ as') bs =
     let own = service_snapshots a ds ++ module_snapshot a ∷ [] in
     ap (λ (l : List Snapshot). own ++ l) (snapshots-append ds as' bs) ∙ sym (append_assoc own (snapshots_of ds as') (snapshots_of ds bs))
+
+-- the snapshots of some actions, and of some more
+joined : (ds : List Held) (all old new : List Action) (before more dues : List Due) → all ≡ old ++ new → map snapshot_as (snapshots_of ds old) ≡ map snap_in before → map snapshot_as (snapshots_of ds new) ≡ map snap_in more → dues ≡ before ++ more
+    → map snapshot_as (snapshots_of ds all) ≡ map snap_in dues
+joined ds all old new before more dues split a b is =
+    ap (λ (l : List Action). map snapshot_as (snapshots_of ds l)) split
+    ∙ ap (map snapshot_as) (snapshots-append ds old new)
+    ∙ map-append snapshot_as (snapshots_of ds old) (snapshots_of ds new)
+    ∙ (λ i. a i ++ b i)
+    ∙ sym (map-append snap_in before more)
+    ∙ ap (map snap_in) (sym is)
 
 -- the pieces between two markers
 pieces-same : (kinds : List Kind) (front : Log) (seat position : ℕ) (term : ℤ) (ps : List Piece) → position ≡ place front → term ≡ last front → ps ≡ records_of kinds front seat
@@ -229,14 +237,10 @@ module _ (kinds : List Kind) (log : Log) (formed : IsWellFormedOn kinds log) (ba
         ap (λ (j : ℕ). actions_over bs xs first start (take j (drop first es))) (sym (add-one n))
         ∙ actions_next bs xs first n start (drop first es)
         ∙ ap (λ (o : Option Event). old ++ action_with xs k o (module_with bs k (module_over bs first start (take n (drop first es))) o)) here in
-        ap (λ (l : List Action). map snapshot_as (snapshots_of ds l)) split
-        ∙ ap (map snapshot_as) (snapshots-append ds old new)
-        ∙ map-append snapshot_as (snapshots_of ds old) (snapshots_of ds new)
-        ∙ (λ i. over-snaps first many n from (omega (arith, few)) room i
-        ++ event-snaps k less (λ some. low-at (from some)) e found.1 (module_with bs k (module_over bs first start (take n (drop first es))) (some_of e)) next i)
-        ∙ sym (map-append snap_in (due_in r log first k) (due_of r (take k log) (some_of (entry_of e))))
-        ∙ ap (λ (o : Option Entry). map snap_in (due_in r log first k ++ due_of r (take k log) o)) (sym (entry-there kinds log formed k e found.1))
-        ∙ ap (map snap_in) (sym (one-more first n))
+        joined ds (actions_over bs xs first start (take (suc n) (drop first es))) old new (due_in r log first k) (due_of r (take k log) (some_of (entry_of e))) (due_in r log first (first + suc n)) split
+        (over-snaps first many n from (omega (arith, few)) room)
+        (event-snaps k less (λ some. low-at (from some)) e found.1 (module_with bs k (module_over bs first start (take n (drop first es))) (some_of e)) next)
+        (one-more first n ∙ ap (λ (o : Option Entry). due_in r log first k ++ due_of r (take k log) o) (entry-there kinds log formed k e found.1))
       where
         on : (first n : ℕ) → first + suc n ≡ suc (first + n)
         on first n = omega arith

@@ -1,18 +1,17 @@
 -- Services consume what is committed.
-use Rattle.std.proofs.Common.{◌≡◌, ℕ, zero, suc, ◌+◌, ◌-◌, ◌<◌, ◌≤◌, ℤ, Bool, true, false, ◌&&◌, List, [], ◌∷◌, ◌++◌, length, map, set, take, drop, Option, refl, sym, ap, ◌∙◌, subst, arith, length-append, append_assoc, if◌then◌else◌}
+use Rattle.std.proofs.Common.{◌≡◌, ℕ, zero, suc, ◌+◌, ◌-◌, ◌<◌, ◌≤◌, ℤ, Bool, true, ◌&&◌, List, [], ◌∷◌, ◌++◌, length, map, set, take, drop, Option, refl, sym, ap, ◌∙◌, subst, arith, length-append, append_assoc, if◌then◌else◌}
 use Rattle.std.specs.Prelude.{Contains, nat_lt, slice_index_or}
 use Rattle.std.proofs.lemmas.Bool.Decides.{nat_tests}
-use Rattle.std.proofs.lemmas.List.{append-nil, map-append}
+use Rattle.std.proofs.lemmas.List.{map-append}
 use Rattle.entry_log.specs.Log.{Log}
-use Rattle.log_replication.specs.Prefixes.{Leads}
 use Rattle.service_api.specs.declared.shipped.Kind.{Kind}
 use Rattle.consensus_core.specs.Member.{Member, Run, input_of, may_take, with_next}
 use Rattle.service_phases.specs.Pairs.{Each}
 use Rattle.service_runs.proofs.Lists.{take-length}
 use Rattle.run_world.specs.Lawful.{Lawful}
 use Rattle.run_world.specs.Rounds.{consume}
-use Rattle.run_world.specs.Seat.{Seat, Phase, Goes, fed, is_going}
-use Rattle.run_world.specs.RunWorld.{Act, RunWorld, Takes, after_acts, committed, does, is_up, put, seat}
+use Rattle.run_world.specs.Seat.{Seat, Goes, fed, is_going}
+use Rattle.run_world.specs.RunWorld.{Act, RunWorld, Takes, after_acts, committed, is_up, put, seat}
 use Rattle.run_world.proofs.Rows.{both}
 use Rattle.member_phases.specs.Seats.{all_fed, with_seat}
 use Rattle.member_phases.proofs.Worlds.{IsFront, acts-append, commit-low, front-is, inputs-front, own-seat, printed-all, put-is, seat-there, seat-twice, still-there, up-there}

@@ -1,18 +1,16 @@
 -- One seat of a world is changed.
-use Rattle.std.proofs.Common.{◌≡◌, inl, inr, ℕ, zero, suc, ◌<◌, ◌≤◌, Bool, true, false, ◌&&◌, List, [], ◌∷◌, ◌++◌, length, map, set, take, refl, sym, ap, ◌∙◌, subst, arith, get_or-set_same, length-set}
-use Rattle.std.specs.Prelude.{Contains, nat_lt, slice_index_or}
+use Rattle.std.proofs.Common.{◌≡◌, inl, inr, ℕ, zero, suc, ◌<◌, ◌≤◌, true, false, List, [], ◌∷◌, ◌++◌, length, set, take, refl, sym, ap, ◌∙◌, subst, arith, get_or-set_same, length-set}
+use Rattle.std.specs.Prelude.{Contains, slice_index_or}
 use Rattle.std.proofs.lemmas.Bool.{cases_lt}
-use Rattle.std.proofs.lemmas.Bool.Decides.{nat_tests}
 use Rattle.std.proofs.lemmas.List.{get_or_past}
 use Rattle.entry_log.specs.Log.{Log}
-use Rattle.log_replication.specs.Prefixes.{Leads, leads}
+use Rattle.log_replication.specs.Prefixes.{Leads}
 use Rattle.service_api.specs.declared.shipped.Kind.{Kind}
 use Rattle.consensus_core.specs.Member.{Member, Run}
 use Rattle.world.specs.World.{member}
-use Rattle.service_runs.specs.Hosts.{Hosted, longer}
+use Rattle.service_runs.specs.Hosts.{Hosted}
 use Rattle.service_runs.proofs.Acts.{held}
 use Rattle.service_runs.proofs.Held.{Held}
-use Rattle.service_runs.proofs.Statements.{inputs-hold}
 use Rattle.one_log.specs.Led.{led, turns}
 use Rattle.one_log.specs.Ruled.{rules_of}
 use Rattle.one_log.proofs.Turns.{turns-acts}

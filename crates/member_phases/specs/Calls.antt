@@ -1,11 +1,11 @@
 -- What a member's phase says of it, clause by clause.
-use Rattle.std.specs.Prelude.{◌≡◌, ℕ, ◌-◌, Bool, List, [], take, drop}
+use Rattle.std.specs.Prelude.{◌≡◌, ℕ, ◌-◌, Bool, List, take, drop}
 use Rattle.cl_base.specs.Disk.{DiskState}
 use Rattle.egress.specs.declared.sent.Sent.{Sent}
 use Rattle.entry_log.specs.Log.{Log}
 use Rattle.consensus_agent.specs.Consumed.{HasConsumed, outboxes, role_in}
 use Rattle.consensus_agent.specs.Phases.{stage}
-use Rattle.consensus_agent.specs.Sound.{IsSound}
+use Rattle.member_rows.specs.Calls.{GoesOn}
 use Rattle.consensus_agent.specs.Written.{Snapshot, AreWritten, phase_snapshots}
 use Rattle.owed_egress.specs.Taken.{module_over, sent_over}
 use Rattle.run_orders.specs.Stands.{UpSeen}
@@ -21,7 +21,7 @@ stage_of u = stage u.lending u.module_held u.core u.over
 -- a member between two phases goes on: what `run_phase` wants of it (`idle`), and what `Agent`, by its field `sound`, says of itself while it is whole
 pub record IsBetween {D : Type 0} (u : UpSeen D) : Type 0 where
   pub idle : IsIdle (stage_of u)
-  pub sound : IsSound u.core.values u.disk.kept u.disk.whole u.module_held
+  pub sound : GoesOn u
 
 -- what it has committed
 abbrev pub commit_of : {D : Type 0} → UpSeen D → ℕ

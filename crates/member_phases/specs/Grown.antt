@@ -1,5 +1,5 @@
 -- What the services of a member became in a phase.
-use Rattle.std.specs.Prelude.{◌≡◌, ℕ, ◌≤◌, List, length}
+use Rattle.std.specs.Prelude.{ℕ, ◌≤◌, List, length}
 use Rattle.entry_log.specs.Log.{Log}
 use Rattle.run_orders.specs.Stands.{HaveInputs}
 use Rattle.run_phases.specs.Grown.{Grew}

@@ -1,5 +1,5 @@
 -- What a phase makes of a member's seat.
-use Rattle.std.specs.Prelude.{ℕ, map, set, take}
+use Rattle.std.specs.Prelude.{ℕ, map, set}
 use Rattle.entry_log.specs.Log.{Log}
 use Rattle.run_world.specs.Seat.{Seat}
 use Rattle.run_world.specs.RunWorld.{RunWorld, committed}

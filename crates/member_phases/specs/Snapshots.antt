@@ -1,13 +1,12 @@
 -- A snapshot that a phase puts, as an entry of the world.
-use Rattle.std.specs.Prelude.{List, [], ◌∷◌, length}
-use Rattle.cl_base.specs.Disk.{DiskState}
+use Rattle.std.specs.Prelude.{◌≡◌, pos, List, [], ◌∷◌}
+use Rattle.entry_log.specs.Log.{Log}
+use Rattle.log_segment.specs.Held.{new_terms}
+use Rattle.member_disk.specs.Changes.{base_of}
+use Rattle.recording_log.specs.declared.entry.RecEntry.{RecEntry}
 use Rattle.consensus_core.specs.Member.{Member, Whole, puts}
 use Rattle.entry_log.specs.Durable.{SnapshotEntry}
 use Rattle.consensus_agent.specs.Written.{Snapshot}
-use Rattle.member_disk.specs.Kept.{EachStands}
-use Rattle.run_orders.specs.Kept.{IsMountable, IsStateOf}
-use Rattle.run_orders.specs.Stands.{UpSeen}
-use Rattle.service_api.specs.declared.shipped.Kind.{Kind}
 use Rattle.service_runs.specs.Hosts.{Due}
 
 -- its entry, with its pieces
@@ -18,14 +17,11 @@ snapshot_as s = record { recording = s.head.recording; service = s.head.service;
 abbrev pub snap_in : Due → SnapshotEntry
 snap_in d = d.snap
 
+-- the entry says where its term begins in this log
+abbrev pub HasBase : Log → RecEntry → Type 0
+HasBase log e = e.base ≡ pos (base_of e.term (new_terms 0 log))
+
 -- the member once all that is due is put
 abbrev pub all_put : List Due → Member → Member
 all_put [] x = x
 all_put (d ∷ due) x = all_put due (puts d.snap Whole x)
-
-module _ {D : Type 0} (state : D → DiskState) (kinds : List Kind) where
-  -- the disk of a running member stands for what this member keeps
-  pub record HasPut (u : UpSeen D) (x : Member) : Type 0 where
-    pub mountable : IsMountable (length kinds) u.disk.kept
-    pub each : EachStands u.disk.kept (state u.disk.disk).files
-    pub durable : IsStateOf u.disk.kept (state u.disk.disk).files x.durable
