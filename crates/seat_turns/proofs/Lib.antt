@@ -1,0 +1,4 @@
+pub mod Acts
+pub mod Asks
+pub mod Packets
+pub mod Stops
