@@ -1,4 +1,5 @@
 pub mod Calls
+pub mod Cuts
 pub mod Grown
 pub mod Phases
 pub mod Seats
