@@ -4,7 +4,7 @@ use Rattle.std.specs.Prelude.{IsTrue, nat_eq}
 use Rattle.std.specs.List.{list_any}
 use Rattle.std.proofs.lemmas.List.{append_assoc}
 use Rattle.std.proofs.lemmas.List.Elements.{filter-append}
-use Rattle.cl_base.specs.Disk.{CrashLeaves, DiskState, FileState}
+use Rattle.cl_base.specs.Disk.{CrashLeaves, DiskState, FileState, settled_file}
 use Rattle.cl_base.specs.Images.{IsSound}
 use Rattle.cl_base.specs.Runs.{EachImage}
 use Rattle.cl_base.specs.declared.disk.Choice.{Choice}
@@ -19,6 +19,7 @@ use Rattle.member_disk.specs.CutWell.{IsDurable, IsDurableOne, snapshots_of}
 use Rattle.member_disk.specs.Kept.{EachStands, Kept, Held as DiskHeld, Stands}
 use Rattle.member_disk.specs.Parts.{put_part}
 use Rattle.member_disk.proofs.CutWells.{terms_front}
+use Rattle.snapshot_store.specs.Snapshots.{spelled}
 use Rattle.agreement.proofs.Snaps2.{same_term-is}
 use Rattle.consensus_core.specs.declared.change.Change.TheVariants as changes
 use Rattle.consensus_core.specs.Member.{Member, Whole, puts}
@@ -36,7 +37,7 @@ use Rattle.member_phases.specs.Cuts.{HasFile, HasLastFile}
 use Rattle.member_phases.specs.Snapshots.{HasBase, all_put, snap_in, snapshot_as}
 use Rattle.member_phases.proofs.Owed.{each-append}
 use Rattle.member_phases.proofs.Puts.{NamedIn, counts, named-head, no-both, there-any}
-use Rattle.member_phases.proofs.Written.{Keeps, all-kept, others-stored, nat-same, pos-is}
+use Rattle.member_phases.proofs.Written.{Keeps, all-kept, nat-same, others-stored}
 
 -- ---- of the snapshots that are due, those that were written and those behind them
 
@@ -201,7 +202,7 @@ module _ (kinds : List Kind) (log : Log) (few : length kinds ≤ 3) (formed : Is
     until : Keeps kinds log few formed state is_told is_honest st.until (all_put parts.due x).durable
     until = all-kept kinds log few formed state is_told is_honest parts.due st.written a st.until x parts.front (each-left (λ (z : Due). NamedIn kinds log z.snap) parts.due parts.more all-named) k st.done
 
-    between : b.disk ≡ st.until.disk → IsCutAt dues x
+    pub between : b.disk ≡ st.until.disk → IsCutAt dues x
     between is = record { due = parts.due; more = parts.more; all = parts.all; left = same-left st.until (all_put parts.due x).durable until is }
 
     module _ (s : Snapshot) (off : IsCutOff state is_told is_honest s st.until b) (file : (IsThereIn s st.until.kept → ⊥) → HasFile state is_told is_honest s st.until b) where

@@ -14,3 +14,8 @@ pub mod Snapped
 pub mod Puts
 pub mod Written
 pub mod Seen
+pub mod Acts
+pub mod Crashed
+pub mod Ended
+pub mod Rested
+pub mod Stopped

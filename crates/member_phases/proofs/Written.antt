@@ -42,7 +42,7 @@ use Rattle.member_phases.proofs.Puts.{NamedIn, any-there, counts, named-head, no
 same-nat : (a b : ℕ) → a ≡ b → nat_eq a b ≡ true
 same-nat a b e = grind (arith, nat_tests, e)
 
-nat-same : (a b : ℕ) → nat_eq a b ≡ true → a ≡ b
+pub nat-same : (a b : ℕ) → nat_eq a b ≡ true → a ≡ b
 nat-same a b e = grind (arith, nat_tests, e)
 
 same-int : (a b : ℤ) → a ≡ b → same_term a b ≡ true
