@@ -12,7 +12,8 @@ use Rattle.service_phases.specs.Pairs.{Each2}
 use Rattle.service_runs.specs.Hosts.{Output}
 use Rattle.consensus_core.specs.Member.{Run}
 use Rattle.run_world.specs.RunWorld.{RunWorld, seat, with_records}
-use Rattle.run_orders.specs.Stands.{AreRecords, EndedSeen, IsEnded, IsRecord, IsSeat, RunSeen, Stands, UpSeen, has_entry, more_sent, parts_of}
+use Rattle.run_world.specs.Seat.{Seat}
+use Rattle.run_orders.specs.Stands.{AreRecords, EndedSeen, IsEnded, IsRecord, IsSeat, RunSeen, SeatSeen, Stands, UpSeen, has_entry, more_sent, parts_of}
 use Rattle.member_rows.specs.Places.{running_seat}
 use Rattle.member_phases.specs.Phases.{IsPhase, phase_seen}
 use Rattle.member_phases.specs.Seats.{with_seat}
@@ -39,7 +40,7 @@ more-records streams os more sent are each = record {
       (each-append IsRecord os more (filter has_entry are.all) sent are.each each);
 }
 
-each-set : {A B : Type 0} (R : A → B → Type 0) (xs : List A) (ys : List B) (i : ℕ) (x : A) (y : B) → Each2 R xs ys → R x y → Each2 R (set xs i x) (set ys i y)
+pub each-set : {A B : Type 0} (R : A → B → Type 0) (xs : List A) (ys : List B) (i : ℕ) (x : A) (y : B) → Each2 R xs ys → R x y → Each2 R (set xs i x) (set ys i y)
 each-set R [] [] i x y each is = each
 each-set R [] (b ∷ ys) i x y each is = absurd each
 each-set R (a ∷ xs) [] i x y each is = absurd each
@@ -58,5 +59,15 @@ module _ {D : Type 0} (state : D → DiskState) (kinds : List Kind) where
     });
     net = stands.net;
     records = more-records x.streams w.records p.records sent stands.records p.each;
+    printed = stands.printed;
+  }
+
+  -- a phase that a fault cut
+  pub cut-stands : (x : RunSeen D) (w : RunWorld) (m : ℕ) (y : SeatSeen D) (after : Seat) → Stands state kinds x w → IsSeat state kinds y after → Stands state kinds (phase_seen m y [] x) (with_seat m after w)
+  cut-stands x w m y after stands is = record {
+    now = stands.now;
+    seats = each-set (IsSeat state kinds) x.seats w.seats m y after stands.seats is;
+    net = stands.net;
+    records = stands.records;
     printed = stands.printed;
   }

@@ -1,5 +1,5 @@
 -- A phase within one call that a fault of the disk ended, on both sides.
-use Rattle.std.proofs.Common.{◌≡◌, ℕ, ◌≤◌, Bool, false, List, length, map, Option, refl, sym, ap, ◌∙◌, subst, arith}
+use Rattle.std.proofs.Common.{◌≡◌, inl, inr, ℕ, ◌≤◌, Bool, false, List, [], ◌∷◌, length, map, Option, refl, sym, ap, ◌∙◌, subst, arith}
 use Rattle.std.specs.Prelude.{IsTrue}
 use Rattle.cl_base.specs.Disk.{CrashLeaves, DiskState}
 use Rattle.cl_base.specs.Images.{IsSound}
@@ -12,6 +12,7 @@ use Rattle.service_phases.specs.Pairs.{Each}
 use Rattle.service_phases.specs.Phases.{IsWithin}
 use Rattle.service_runs.specs.Hosts.{Due, due_in, role_of}
 use Rattle.consensus_core.specs.Member.{stopped}
+use Rattle.consensus_agent.specs.Written.{AreWritten, Snapshot, StoppedAmong}
 use Rattle.one_log.specs.Ruled.{rules_of}
 use Rattle.run_world.specs.Lawful.{Lawful}
 use Rattle.run_world.specs.Rounds.{Phased, phase_over}
@@ -33,6 +34,19 @@ use Rattle.member_phases.proofs.Rested.{stopped-stands}
 use Rattle.member_phases.proofs.Takes.{each-front}
 use Rattle.member_phases.proofs.Worlds.{IsFront, inputs-front, printed-all, seat-there, up-there}
 use Rattle.member_phases.proofs.Written.{Keeps, dues-named, snaps-named}
+
+-- a disk stays honest
+all-honest : {D : Type 0} (state : D → DiskState) (is_told is_honest : D → Bool) (ss : List Snapshot) (a b : DiskHeld D) → AreWritten state is_told is_honest ss a b → IsTrue (is_honest a.disk) → IsTrue (is_honest b.disk)
+all-honest {D} state is_told is_honest [] a b same honest = subst (λ (h : DiskHeld D). IsTrue (is_honest h.disk)) (sym same) honest
+all-honest state is_told is_honest (s ∷ ss) a b written honest = all-honest state is_told is_honest ss written.0 b written.2 (subst IsTrue (sym written.1.honest) honest)
+
+pub still-honest : {D : Type 0} (state : D → DiskState) (is_told is_honest : D → Bool) (ss : List Snapshot) (a b : DiskHeld D) → StoppedAmong state is_told is_honest ss a b → IsTrue (is_honest a.disk) → IsTrue (is_honest b.disk)
+still-honest {D} state is_told is_honest ss a b st honest =
+    let until = all-honest state is_told is_honest st.written a st.until st.done honest in
+    elim st.last [
+      | inl same ↦ subst (λ (h : DiskHeld D). IsTrue (is_honest h.disk)) (sym same) until
+      | inr z ↦ subst IsTrue (sym z.3.honest) until
+    ]
 
 module _ {D : Type 0} (state : D → DiskState) (is_told is_honest : D → Bool) (kinds : List Kind) (n : ℕ) (w : RunWorld) (m : ℕ) (five : n ≤ 5) (three : length kinds ≤ 3) (lawful : Lawful n kinds w) (u v : UpSeen D) (choice : Choice) (ended : List EndedSeen) (disk : D)
     (is : IsSeat state kinds (running_seat choice ended u false) (seat w m)) (d : PhaseCut state is_told is_honest u v) (honest : IsTrue (is_honest u.disk.disk)) (told : IsTrue (is_told u.disk.disk)) (bases : Each (HasBase (seat w m).member.durable.log) (snapshots_kept u.disk.kept.entries))

@@ -10,7 +10,7 @@ ghost use Rattle.module_state.specs.Entries.{IsWellFormedOn, events_in};
 ghost use Rattle.module_state.specs.Places.{log_of};
 ghost use Rattle.module_state.specs.Services.{module_of};
 ghost use Rattle.owed_egress.specs.Taken.{module_over, outboxes_in, sent_over};
-ghost use Rattle.run_orders.specs.Stands.{AreRecords, EndedSeen, HaveInputs, IsRecord, IsSeat, IsUp, RunSeen, Stands, UpSeen, more_sent, term_led};
+ghost use Rattle.run_orders.specs.Stands.{AreRecords, EndedSeen, HaveInputs, IsRecord, IsSeat, IsUp, RunSeen, SeatSeen, Stands, UpSeen, more_sent, term_led};
 ghost use Rattle.service_api.specs.declared.shipped.Kind.{Kind};
 ghost use Rattle.service_container.specs.Held.{Held};
 ghost use Rattle.service_phases.specs.Pairs.{Each, Each2};
@@ -22,11 +22,13 @@ ghost use Rattle.run_world.specs.RunWorld.{RunWorld, after_acts, seat, with_reco
 ghost use Rattle.run_world.specs.Seat.{Goes};
 ghost use Rattle.consensus_agent.specs.Written.{actions_over, snapshots_of};
 ghost use Rattle.entry_log.specs.Shape.{shape_of};
+ghost use Rattle.cl_base.specs.Disk.{CrashLeaves};
 ghost use Rattle.cl_base.specs.declared.disk.Choice.{Choice};
 ghost use Rattle.egress.specs.Streams.{StreamSeen};
 ghost use Rattle.egress.specs.declared.sent.Sent.{Sent};
-ghost use Rattle.member_rows.specs.Places.{running_seat};
-ghost use Rattle.member_phases.specs.Calls.{IsBetween, PhaseDone, commit_of};
+ghost use Rattle.member_rows.specs.Places.{running_seat, stopped_seat};
+ghost use Rattle.member_phases.specs.Calls.{IsBetween, PhaseCut, PhaseDone, commit_of, snapshots_due};
+ghost use Rattle.member_phases.specs.Cuts.{HasLastFile, IsCutPhase};
 ghost use Rattle.member_phases.specs.Grown.{GrewTo};
 ghost use Rattle.member_phases.specs.Phases.{IsPhase, phase_seen};
 ghost use Rattle.member_phases.specs.Seats.{all_fed, with_seat};
@@ -82,4 +84,14 @@ pub fn a_phase_is_seen<D: Disk>()
     ensures records { (streams : List StreamSeen) (records more : List Output) (sent : List Sent) → AreRecords streams records → Each2 IsRecord more sent → AreRecords (fold more_sent streams sent) (records ++ more) }
     ensures stands { (kinds : List Kind) (x : RunSeen D) (w : RunWorld) (m : ℕ) (u v : UpSeen D) (sent : List Sent) (choice : Choice) (ended : List EndedSeen) → Stands D.state kinds x w → IsSeat D.state kinds (running_seat choice ended u false) (seat w m)
         → (p : IsPhase D.state kinds m u v sent w) → Stands D.state kinds (phase_seen m (running_seat choice ended v false) sent x) (with_records p.records (with_seat m p.after w)) }
+{}
+
+/// A phase of a member that a fault of its disk ended, as its snapshots were put, is a phase in the world that a fault cut: what a crash by the seat's choice leaves of the disk stands to the seat of the stopped member, whose services had consumed all that is committed, and nothing is sent. So it is where the fault came between two snapshots, and where it came to one that is in its file or of which no image has the entry.
+pub fn a_cut_phase_is_acts<D: Disk>()
+    ensures between { (n : ℕ) (kinds : List Kind) (w : RunWorld) (m : ℕ) (u v : UpSeen D) (choice : Choice) (ended : List EndedSeen) (d : D) → n ≤ 5 → length kinds ≤ 3 → Lawful n kinds w → IsTrue (D.is_honest u.disk.disk) → Each (HasBase (seat w m).member.durable.log) (snapshots_kept u.disk.kept.entries)
+        → IsSeat D.state kinds (running_seat choice ended u false) (seat w m) → (p : PhaseCut D.state D.tells D.is_honest u v) → v.disk.disk ≡ p.stopped.until.disk → CrashLeaves choice (D.state v.disk.disk) (D.state d) → IsCutPhase D.state kinds m (stopped_seat ended v false d) w }
+    ensures anywhere { (n : ℕ) (kinds : List Kind) (w : RunWorld) (m : ℕ) (u v : UpSeen D) (choice : Choice) (ended : List EndedSeen) (d : D) → n ≤ 5 → length kinds ≤ 3 → Lawful n kinds w → IsTrue (D.is_honest u.disk.disk) → Each (HasBase (seat w m).member.durable.log) (snapshots_kept u.disk.kept.entries)
+        → IsSeat D.state kinds (running_seat choice ended u false) (seat w m) → (p : PhaseCut D.state D.tells D.is_honest u v) → HasLastFile D.state D.tells D.is_honest (snapshots_due u v) u.disk v.disk p.stopped → CrashLeaves choice (D.state v.disk.disk) (D.state d)
+        → IsCutPhase D.state kinds m (stopped_seat ended v false d) w }
+    ensures seen { (kinds : List Kind) (x : RunSeen D) (w : RunWorld) (m : ℕ) (y : SeatSeen D) → Stands D.state kinds x w → (p : IsCutPhase D.state kinds m y w) → Stands D.state kinds (phase_seen m y [] x) (with_seat m p.after w) }
 {}
