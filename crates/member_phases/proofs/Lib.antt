@@ -19,3 +19,4 @@ pub mod Crashed
 pub mod Ended
 pub mod Rested
 pub mod Stopped
+pub mod Going
