@@ -18,5 +18,8 @@ pub mod Acts
 pub mod Crashed
 pub mod Ended
 pub mod Rested
+pub mod Halting
 pub mod Stopped
 pub mod Going
+pub mod Phasing
+pub mod Freed

@@ -16,6 +16,7 @@ use Rattle.service_runs.specs.Hosts.{Output}
 use Rattle.consensus_agent.specs.Consumed.{HasConsumed, HaveRising, outboxes, role_in}
 use Rattle.consensus_agent.specs.Written.{AreWritten, StoppedAmong}
 use Rattle.owed_egress.specs.Taken.{module_over, sent_over}
+use Rattle.member_rows.specs.Calls.{GoesOn as MemberGoesOn}
 use Rattle.run_phases.specs.Grown.{GoesOn}
 use Rattle.run_phases.specs.Logs.{FeedsLog, HoldsLog}
 use Rattle.run_world.specs.Seat.{Seat}
@@ -41,7 +42,7 @@ HaveOutputs (kind ∷ kinds) applied (c ∷ cs) (xs ∷ xss) = HasOutput kind ap
 HaveOutputs _ applied _ _ = ⊥
 
 -- a phase that goes on with these feeds: its containers are lent, with what came out of them; and what was fed and published is the log's, or once the phase is over what was published
-pub record Runs {D : Type 0} (kinds : List Kind) (u : UpSeen D) (feeds : List Fed) (s : Seat) : Type 0 where
+pub record PhaseRuns {D : Type 0} (kinds : List Kind) (u : UpSeen D) (feeds : List Fed) (s : Seat) : Type 0 where
   pub lent : Each (IsLent u.module_held.consumed) u.lending.lent
   pub kept : u.lending.kept ≡ []
   pub out : HaveOutputs kinds s.applied u.lending.lent s.run.inputs
@@ -78,6 +79,7 @@ pub record FreeFed {D : Type 0} (u v : UpSeen D) (feeds next : List Fed) : Type 
 module _ {D : Type 0} (state_in : D → DiskState) (is_told is_honest : D → Bool) where
   -- it ended, and these records go out: clauses of these names of `free_end`, where it answers Ok; and `written` of `Agent::phase_end`
   pub record FreeEnded (u v : UpSeen D) (feeds : List Fed) (sent : List Sent) : Type 0 where
+    pub was : MemberGoesOn u
     pub is : IsBetween v
     pub grew : Each2 GoesOn u.lending.lent v.lending.kept
     pub all : (log : Log) → u.module_held.ahead.entries ≡ drop u.module_held.consumed log → FeedsLog log (stage_of u) feeds → Each (HasAll log (commit_of u)) v.lending.kept
@@ -93,10 +95,11 @@ module _ {D : Type 0} (state_in : D → DiskState) (is_told is_honest : D → Bo
 
   -- a fault of the disk ended it, as its snapshots were put: what `free_end` says where it answers Device
   pub record FreeCut (u v : UpSeen D) (feeds : List Fed) : Type 0 where
+    pub was : MemberGoesOn u
     pub grew : Each2 GoesOn u.lending.lent v.lending.kept
     pub all : (log : Log) → u.module_held.ahead.entries ≡ drop u.module_held.consumed log → FeedsLog log (stage_of u) feeds → Each (HasAll log (commit_of u)) v.lending.kept
     pub over_all : (log : Log) → u.over ≡ true → HoldsLog log (stage_of u) feeds → Each (HasAll log (commit_of u)) v.lending.kept
-    pub stopped : StoppedAmong state_in is_told is_honest (snapshots_due u v) u.disk v.disk
+    pub stopped : HaveRising v.lending.kept → StoppedAmong state_in is_told is_honest (snapshots_due u v) u.disk v.disk
     pub base : v.base ≡ u.base
 
 -- it was dropped at a stop: clauses of these names of `free_drop` (`grew` is the second field of its clause `back`)
@@ -114,7 +117,7 @@ module _ {D : Type 0} (state : D → DiskState) (kinds : List Kind) where
     pub after : Seat
     pub acted : PhasesAct kinds w (with_seat m after w)
     pub up : IsUp state kinds v true after
-    pub runs : Runs kinds v feeds after
+    pub runs : PhaseRuns kinds v feeds after
     pub ended : after.ended ≡ (seat w m).ended
     pub faults : after.faults ≡ (seat w m).faults
 

@@ -1,5 +1,6 @@
+use Rattle.member_phases.proofs.Halting.{still-honest}
 use Rattle.member_phases.proofs.Seen.{cut-stands}
-use Rattle.member_phases.proofs.Stopped.{cut-anywhere, cut-between, still-honest}
+use Rattle.member_phases.proofs.Stopped.{cut-anywhere, cut-between}
 use Rattle.member_phases.specs.Calls.{snapshots_due}
 use Rattle.member_phases.proofs.a_cut_phase_is_acts.Goals as goal
 
