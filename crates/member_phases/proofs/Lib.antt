@@ -23,3 +23,5 @@ pub mod Stopped
 pub mod Going
 pub mod Phasing
 pub mod Freed
+pub mod Lent
+pub mod Fed
