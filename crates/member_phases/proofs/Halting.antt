@@ -70,7 +70,7 @@ module _ {D : Type 0} (state : D → DiskState) (is_told is_honest : D → Bool)
   abbrev pub dues : List Due
   dues = due_in (rules_of kinds) past s.applied s.member.values.rest.commit
 
-  up : IsUp state kinds u going s
+  pub up : IsUp state kinds u going s
   up = is.home
 
   inputs : HaveInputs kinds v.base past 0 v.lending.kept (all_fed s).run.inputs
