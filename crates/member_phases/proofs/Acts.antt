@@ -44,7 +44,7 @@ keeps-put [] x = (refl, refl, refl)
 keeps-put (d ∷ due) x = keeps-put due (puts d.snap Whole x)
 
 module _ (kinds : List Kind) (w : RunWorld) (m : ℕ) (low : m < length w.seats) where
-  there-up : (t : Seat) → t.member.up ≡ true → is_up (with_seat m t w) m ≡ true
+  pub there-up : (t : Seat) → t.member.up ≡ true → is_up (with_seat m t w) m ≡ true
   there-up t on =
       let l = still-there w m t low in
       both (nat_lt m (length (with_seat m t w).seats)) (seat (with_seat m t w) m).member.up (grind (arith, nat_tests, l)) (ap (λ (z : Seat). z.member.up) (seat-there w m t low) ∙ on)

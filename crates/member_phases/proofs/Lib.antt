@@ -25,3 +25,5 @@ pub mod Phasing
 pub mod Freed
 pub mod Lent
 pub mod Fed
+pub mod Begun
+pub mod Dropped

@@ -24,10 +24,10 @@ parts-more (q ∷ rs) r =
     ap (λ (ps : List (ℕ × Log)). map (λ (xs : Log). (q.first, xs)) q.inputs ++ ps) (parts-more rs r)
     ∙ sym (append_assoc (map (λ (xs : Log). (q.first, xs)) q.inputs) (parts_of rs) (map (λ (xs : Log). (r.first, xs)) r.inputs))
 
-abbrev seen : ℕ → ContainerHeld → EndedSeen
+abbrev pub seen : ℕ → ContainerHeld → EndedSeen
 seen base c = record { from = base; inputs = c.inputs }
 
-behind-base : (base : ℕ) (log : Log) (xs inputs : Log) → base ≤ length log → xs ≡ take base log ++ inputs → inputs ≡ drop base xs
+pub behind-base : (base : ℕ) (log : Log) (xs inputs : Log) → base ≤ length log → xs ≡ take base log ++ inputs → inputs ≡ drop base xs
 behind-base base log xs inputs within is =
     sym (drop-append_seam (take base log) inputs)
     ∙ ap (λ (n : ℕ). drop n (take base log ++ inputs)) (length-take-le base log within)
@@ -43,12 +43,17 @@ each-ended (kind ∷ kinds) base first log number (c ∷ cs) [] same within have
 each-ended (kind ∷ kinds) base first log number (c ∷ cs) (xs ∷ xss) same within have =
     (record { from = same; inputs = behind-base base log xs c.inputs within have.0.inputs }, each-ended kinds base first log (suc number) cs xss same within have.1)
 
+-- of containers of which some may not be whole
+pub each-dropped : (base first : ℕ) (log : Log) (cs : List ContainerHeld) → base ≡ first → base ≤ length log → Each2 IsEnded (map (seen base) cs) (map (λ (xs : Log). (first, xs)) (map (λ (c : ContainerHeld). take base log ++ c.inputs) cs))
+each-dropped base first log [] same within = tt
+each-dropped base first log (c ∷ cs) same within = (record { from = same; inputs = behind-base base log (take base log ++ c.inputs) c.inputs within refl }, each-dropped base first log cs same within)
+
 -- ---- the seat of a member that stopped, with what its services had consumed
 
 module _ {D : Type 0} (state : D → DiskState) (kinds : List Kind) (choice : Choice) (v : UpSeen D) (going : Bool) (ended : List EndedSeen) (disk : D) (crash : CrashLeaves choice (state v.disk.disk) (state disk)) where
-  pub stopped-stands : (e : Durable) (t : Seat) (log : Log) → IsLeft (length kinds) e (state disk).files → v.base ≡ t.run.first → v.base ≤ length log → HaveInputs kinds v.base log 0 (containers_of going v.lending) t.run.inputs
+  pub rested-stands : (e : Durable) (t : Seat) → IsLeft (length kinds) e (state disk).files → Each2 IsEnded (run_ended v going) (map (λ (xs : Log). (t.run.first, xs)) t.run.inputs)
       → Each2 IsEnded ended (parts_of t.ended) → IsSeat state kinds (stopped_seat ended v going disk) (halted (stopped e) (state v.disk.disk).own_faults t)
-  stopped-stands e t log l same within have was = record {
+  rested-stands e t l own was = record {
     home = record {
       kept = l.kept;
       mountable = l.mountable;
@@ -65,6 +70,9 @@ module _ {D : Type 0} (state : D → DiskState) (kinds : List Kind) (choice : Ch
     faults = record { lets = sym crash.lets; left = refl; own = sym crash.own; alive = crash.burnt };
     ended =
         subst (Each2 IsEnded (ended ++ run_ended v going)) (sym (parts-more t.ended t.run))
-        (each-append IsEnded ended (run_ended v going) (parts_of t.ended) (map (λ (xs : Log). (t.run.first, xs)) t.run.inputs) was
-        (each-ended kinds v.base t.run.first log 0 (containers_of going v.lending) t.run.inputs same within have));
+        (each-append IsEnded ended (run_ended v going) (parts_of t.ended) (map (λ (xs : Log). (t.run.first, xs)) t.run.inputs) was own);
   }
+
+  pub stopped-stands : (e : Durable) (t : Seat) (log : Log) → IsLeft (length kinds) e (state disk).files → v.base ≡ t.run.first → v.base ≤ length log → HaveInputs kinds v.base log 0 (containers_of going v.lending) t.run.inputs
+      → Each2 IsEnded ended (parts_of t.ended) → IsSeat state kinds (stopped_seat ended v going disk) (halted (stopped e) (state v.disk.disk).own_faults t)
+  stopped-stands e t log l same within have was = rested-stands e t l (each-ended kinds v.base t.run.first log 0 (containers_of going v.lending) t.run.inputs same within have) was

@@ -1,5 +1,5 @@
 -- A phase that goes on over calls: what it has of its services, what the calls that begin, feed, end and drop it say, and what they make of a run.
-use Rattle.std.specs.Prelude.{◌≡◌, ◌≤◌, ⊤, ℕ, ◌-◌, Bool, true, false, List, [], ◌∷◌, ◌++◌, length, take, drop}
+use Rattle.std.specs.Prelude.{◌≡◌, ◌≤◌, ⊤, ℕ, ◌-◌, Bool, true, false, List, [], ◌∷◌, ◌++◌, length, map, take, drop}
 use Rattle.cl_base.specs.Disk.{DiskState}
 use Rattle.cl_base.specs.declared.disk.Choice.{Choice}
 use Rattle.commit_counter.specs.Ends.{Fed}
@@ -16,14 +16,15 @@ use Rattle.service_runs.specs.Hosts.{Output}
 use Rattle.consensus_agent.specs.Consumed.{HasConsumed, HaveRising, outboxes, role_in}
 use Rattle.consensus_agent.specs.Written.{AreWritten, StoppedAmong}
 use Rattle.owed_egress.specs.Taken.{module_over, sent_over}
-use Rattle.member_rows.specs.Calls.{GoesOn as MemberGoesOn}
 use Rattle.run_phases.specs.Grown.{GoesOn}
 use Rattle.run_phases.specs.Logs.{FeedsLog, HoldsLog}
 use Rattle.run_world.specs.Seat.{Seat}
 use Rattle.run_world.specs.RunWorld.{RunWorld, seat, with_records}
 use Rattle.run_orders.specs.Kept.{HasFaults}
 use Rattle.run_orders.specs.Phases.{PhasesAct}
-use Rattle.run_orders.specs.Stands.{IsRecord, IsSeat, IsUp, SeatSeen, UpSeen}
+use Rattle.run_orders.specs.Stands.{IsEnded, IsRecord, IsSeat, IsUp, SeatSeen, UpSeen}
+use Rattle.member_rows.specs.Calls.{GoesOn as MemberGoesOn}
+use Rattle.member_rows.specs.Places.{run_ended}
 use Rattle.member_phases.specs.Calls.{IsBetween, behind, commit_of, snapshots_due, stage_of}
 use Rattle.member_phases.specs.Seats.{with_seat}
 
@@ -111,6 +112,10 @@ pub record FreeDropped {D : Type 0} (u v : UpSeen D) (feeds : List Fed) : Type 0
 
 -- ---- what they make of a run
 
+-- each service has consumed this
+abbrev pub with_consumed : List Log → Seat → Seat
+with_consumed inputs s = record s { run = record s.run { inputs = inputs } }
+
 module _ {D : Type 0} (state : D → DiskState) (kinds : List Kind) where
   -- acts of phases lead from one world to another in which member m stands to its seat with a phase that goes on, and all else is as it was
   pub record GoesOnSo (m : ℕ) (v : UpSeen D) (feeds : List Fed) (w : RunWorld) : Type 0 where
@@ -136,3 +141,9 @@ module _ {D : Type 0} (state : D → DiskState) (kinds : List Kind) where
     pub after : Seat
     pub acted : PhasesAct kinds w (with_seat m after w)
     pub seat : IsSeat state kinds y after
+
+  -- they lead to one in which the services of member m have consumed what the containers had that came back, and all else is as it was
+  pub record DropsSo (m : ℕ) (v : UpSeen D) (w : RunWorld) : Type 0 where
+    pub inputs : List Log
+    pub acted : PhasesAct kinds w (with_seat m (with_consumed inputs (seat w m)) w)
+    pub ended : Each2 IsEnded (run_ended v false) (map (λ (xs : Log). ((seat w m).run.first, xs)) inputs)

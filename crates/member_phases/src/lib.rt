@@ -2,6 +2,7 @@
 #![tactic(auto)]
 
 ghost use Rattle.std.specs.Prelude.{◌≡◌, ◌≤◌, ℕ, ◌-◌, ℤ, Bool, true, false, IsTrue, List, [], Option, length, map, fold, ◌++◌, drop, take};
+ghost use Rattle.commit_counter.specs.Ends.{Fed};
 ghost use Rattle.commit_counter.specs.declared.role.Role.{Role};
 ghost use Rattle.consensus_agent.specs.Consumed.{HaveRising, outboxes};
 ghost use Rattle.entry_log.specs.Log.{Log};
@@ -13,13 +14,14 @@ ghost use Rattle.owed_egress.specs.Taken.{module_over, outboxes_in, sent_over};
 ghost use Rattle.run_orders.specs.Stands.{AreRecords, EndedSeen, HaveInputs, IsRecord, IsSeat, IsUp, RunSeen, SeatSeen, Stands, UpSeen, more_sent, term_led};
 ghost use Rattle.service_api.specs.declared.shipped.Kind.{Kind};
 ghost use Rattle.service_container.specs.Held.{Held};
+ghost use Rattle.service_container.specs.declared.container.Served.{Served};
 ghost use Rattle.service_phases.specs.Pairs.{Each, Each2};
 ghost use Rattle.service_runs.specs.Hosts.{Output, due_in, sent_in};
 ghost use Rattle.one_log.specs.Ruled.{rules_of};
 ghost use Rattle.run_world.specs.Lawful.{Lawful};
 ghost use Rattle.run_world.specs.Rounds.{consume};
-ghost use Rattle.run_world.specs.RunWorld.{RunWorld, after_acts, seat, with_records};
-ghost use Rattle.run_world.specs.Seat.{Goes};
+ghost use Rattle.run_world.specs.RunWorld.{RunWorld, Stops, after_acts, does, seat, with_records};
+ghost use Rattle.run_world.specs.Seat.{Goes, rested};
 ghost use Rattle.consensus_agent.specs.Written.{actions_over, snapshots_of};
 ghost use Rattle.entry_log.specs.Shape.{shape_of};
 ghost use Rattle.cl_base.specs.Disk.{CrashLeaves};
@@ -29,6 +31,7 @@ ghost use Rattle.egress.specs.declared.sent.Sent.{Sent};
 ghost use Rattle.member_rows.specs.Places.{running_seat, stopped_seat};
 ghost use Rattle.member_phases.specs.Calls.{IsBetween, PhaseCut, PhaseDone, commit_of, snapshots_due};
 ghost use Rattle.member_phases.specs.Cuts.{HasLastFile, IsCutPhase};
+ghost use Rattle.member_phases.specs.Frees.{DropsSo, EndsSo, FreeBegun, FreeCut, FreeDropped, FreeEnded, FreeFed, GoesOnSo, PhaseRuns, StopsSo, with_consumed};
 ghost use Rattle.member_phases.specs.Grown.{GrewTo};
 ghost use Rattle.member_phases.specs.Phases.{IsPhase, phase_seen};
 ghost use Rattle.member_phases.specs.Seats.{all_fed, with_seat};
@@ -94,4 +97,34 @@ pub fn a_cut_phase_is_acts<D: Disk>()
         → IsSeat D.state kinds (running_seat choice ended u false) (seat w m) → (p : PhaseCut D.state D.tells D.is_honest u v) → HasLastFile D.state D.tells D.is_honest (snapshots_due u v) u.disk v.disk p.stopped → CrashLeaves choice (D.state v.disk.disk) (D.state d)
         → IsCutPhase D.state kinds m (stopped_seat ended v false d) w }
     ensures seen { (kinds : List Kind) (x : RunSeen D) (w : RunWorld) (m : ℕ) (y : SeatSeen D) → Stands D.state kinds x w → (p : IsCutPhase D.state kinds m y w) → Stands D.state kinds (phase_seen m y [] x) (with_seat m p.after w) }
+{}
+
+/// Phases of a member that go on over calls are acts of phases in the world: one that begins, one that is fed and goes on, and one that ends, with its snapshots and its records. What its services consume they consume in the world where their containers come back.
+pub fn a_phase_goes_on<D: Disk>()
+    ensures begun { (n : ℕ) (kinds : List Kind) (w : RunWorld) (m : ℕ) (u v : UpSeen D) (feeds : List Fed) (jobs : List Served) → n ≤ 5 → length kinds ≤ 3 → Lawful n kinds w → IsUp D.state kinds u false (seat w m) → FreeBegun u v feeds jobs → GoesOnSo D.state kinds m v feeds w }
+    ensures fed { (n : ℕ) (kinds : List Kind) (w : RunWorld) (m : ℕ) (u v : UpSeen D) (feeds next : List Fed) → n ≤ 5 → length kinds ≤ 3 → Lawful n kinds w → IsUp D.state kinds u true (seat w m) → PhaseRuns kinds u feeds (seat w m) → FreeFed u v feeds next → GoesOnSo D.state kinds m v next w }
+    ensures ended { (n : ℕ) (kinds : List Kind) (w : RunWorld) (m : ℕ) (u v : UpSeen D) (feeds : List Fed) (sent : List Sent) → n ≤ 5 → length kinds ≤ 3 → Lawful n kinds w → IsTrue (D.is_honest u.disk.disk) → Each (HasBase (seat w m).member.durable.log) (snapshots_kept u.disk.kept.entries)
+        → IsUp D.state kinds u true (seat w m) → PhaseRuns kinds u feeds (seat w m) → FreeEnded D.state D.tells D.is_honest u v feeds sent → EndsSo D.state kinds m u v sent w }
+    ensures bases { (n : ℕ) (kinds : List Kind) (w : RunWorld) (m : ℕ) (u v : UpSeen D) (feeds : List Fed) (sent : List Sent) → n ≤ 5 → length kinds ≤ 3 → Lawful n kinds w → IsTrue (D.is_honest u.disk.disk) → Each (HasBase (seat w m).member.durable.log) (snapshots_kept u.disk.kept.entries)
+        → IsUp D.state kinds u true (seat w m) → PhaseRuns kinds u feeds (seat w m) → FreeEnded D.state D.tells D.is_honest u v feeds sent → Each (HasBase (seat w m).member.durable.log) (snapshots_kept v.disk.kept.entries) }
+{}
+
+/// A phase that goes on and that a fault of the disk ends, or that is dropped at a stop, is acts of phases in the world: what a crash by the seat's choice leaves of the disk stands to the seat of the stopped member, whose services had consumed what their containers did, and nothing is sent.
+pub fn a_phase_breaks_off<D: Disk>()
+    ensures cut { (n : ℕ) (kinds : List Kind) (w : RunWorld) (m : ℕ) (u v : UpSeen D) (feeds : List Fed) (choice : Choice) (ended : List EndedSeen) (d : D) → n ≤ 5 → length kinds ≤ 3 → Lawful n kinds w → IsTrue (D.is_honest u.disk.disk) → Each (HasBase (seat w m).member.durable.log) (snapshots_kept u.disk.kept.entries)
+        → IsSeat D.state kinds (running_seat choice ended u true) (seat w m) → PhaseRuns kinds u feeds (seat w m) → (p : FreeCut D.state D.tells D.is_honest u v feeds) → ((r : HaveRising v.lending.kept) → HasLastFile D.state D.tells D.is_honest (snapshots_due u v) u.disk v.disk (p.stopped r))
+        → CrashLeaves choice (D.state v.disk.disk) (D.state d) → StopsSo D.state kinds m (stopped_seat ended v false d) w }
+    ensures dropped { (n : ℕ) (kinds : List Kind) (w : RunWorld) (m : ℕ) (u v : UpSeen D) (feeds : List Fed) → n ≤ 5 → length kinds ≤ 3 → Lawful n kinds w → IsUp D.state kinds u true (seat w m) → PhaseRuns kinds u feeds (seat w m) → FreeDropped u v feeds → DropsSo D.state kinds m v w }
+    ensures stopped { (n : ℕ) (kinds : List Kind) (w : RunWorld) (m : ℕ) (u v : UpSeen D) (choice : Choice) (ended : List EndedSeen) (d : D) → Lawful n kinds w → IsTrue (D.is_honest u.disk.disk) → IsSeat D.state kinds (running_seat choice ended u true) (seat w m) → v.disk ≡ u.disk → CrashLeaves choice (D.state v.disk.disk) (D.state d)
+        → (p : DropsSo D.state kinds m v w) → (does kinds (with_seat m (with_consumed p.inputs (seat w m)) w) (Stops m) ≡ with_seat m (rested (seat w m).faults.own (with_consumed p.inputs (seat w m))) w)
+            × IsSeat D.state kinds (stopped_seat ended v false d) (rested (seat w m).faults.own (with_consumed p.inputs (seat w m))) }
+{}
+
+/// What a driver has stands to the world still once a phase of a member that goes on began, was fed, ended or broke off on both sides.
+pub fn a_phase_that_goes_on_is_seen<D: Disk>()
+    ensures goes_on { (kinds : List Kind) (x : RunSeen D) (w : RunWorld) (m : ℕ) (u v : UpSeen D) (going : Bool) (feeds : List Fed) (choice : Choice) (ended : List EndedSeen) → Stands D.state kinds x w → IsSeat D.state kinds (running_seat choice ended u going) (seat w m) → v.disk ≡ u.disk
+        → (p : GoesOnSo D.state kinds m v feeds w) → Stands D.state kinds (phase_seen m (running_seat choice ended v true) [] x) (with_seat m p.after w) }
+    ensures ends { (kinds : List Kind) (x : RunSeen D) (w : RunWorld) (m : ℕ) (u v : UpSeen D) (sent : List Sent) (choice : Choice) (ended : List EndedSeen) → Stands D.state kinds x w → IsSeat D.state kinds (running_seat choice ended u true) (seat w m)
+        → (p : EndsSo D.state kinds m u v sent w) → Stands D.state kinds (phase_seen m (running_seat choice ended v false) sent x) (with_records p.records (with_seat m p.after w)) }
+    ensures stops { (kinds : List Kind) (x : RunSeen D) (w : RunWorld) (m : ℕ) (y : SeatSeen D) → Stands D.state kinds x w → (p : StopsSo D.state kinds m y w) → Stands D.state kinds (phase_seen m y [] x) (with_seat m p.after w) }
 {}
