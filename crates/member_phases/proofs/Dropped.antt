@@ -83,6 +83,7 @@ module _ {D : Type 0} (state : D → DiskState) (is_told is_honest : D → Bool)
       }
 
   pub free-cut : ((r : HaveRising v.lending.kept) → HasLastFile state is_told is_honest (snapshots_due u v) u.disk v.disk (d.stopped r)) → StopsSo state kinds m (stopped_seat ended v false disk) w
+  unfolding st
   free-cut file = stops (here-anywhere state is_told is_honest kinds n w m five three lawful u v true choice ended disk is z.cs z.xss z.grows z.count d.base st honest told bases sound crash (file rising))
 
 -- ---- it was dropped
