@@ -1,12 +1,12 @@
 -- The acts of a phase's end, from where each of its services has consumed all that is committed.
-use Rattle.std.proofs.Common.{◌≡◌, ℕ, zero, suc, ◌+◌, ◌<◌, ◌≤◌, ℤ, Bool, true, false, ◌&&◌, List, [], ◌∷◌, ◌++◌, length, map, take, Option, Some, None, refl, sym, ap, ◌∙◌, subst, arith, if◌then◌else◌}
+use Rattle.std.proofs.Common.{◌≡◌, ℕ, ◌+◌, ◌<◌, ◌≤◌, ℤ, Bool, true, false, ◌&&◌, List, [], ◌∷◌, ◌++◌, length, map, take, Option, Some, None, refl, sym, ap, ◌∙◌, subst, arith, if◌then◌else◌}
 use Rattle.std.specs.Prelude.{nat_eq, nat_lt}
 use Rattle.std.proofs.lemmas.Bool.Decides.{nat_tests}
 use Rattle.entry_log.specs.Durable.{Durable}
 use Rattle.entry_log.specs.Log.{Log}
 use Rattle.service_api.specs.declared.shipped.Kind.{Kind}
 use Rattle.consensus_core.specs.Member.{After, Before, Cut, Member, Whole, puts, stopped}
-use Rattle.service_runs.specs.Hosts.{Due, Output, all_reach, due_in, sent_in}
+use Rattle.service_runs.specs.Hosts.{Due, all_reach, due_in, sent_in}
 use Rattle.service_runs.proofs.Lists.{take-length}
 use Rattle.one_log.specs.Ruled.{rules_of}
 use Rattle.run_world.specs.Rounds.{phase_over, put_all}

@@ -1,5 +1,5 @@
 -- A phase that goes on: it begins, it is fed, and its member's rows go on beside it.
-use Rattle.std.proofs.Common.{◌≡◌, ℕ, ◌+◌, ◌≤◌, Bool, true, false, List, [], ◌∷◌, ◌++◌, length, map, take, drop, refl, sym, ap, ◌∙◌, subst, arith}
+use Rattle.std.proofs.Common.{◌≡◌, ℕ, ◌≤◌, Bool, true, false, List, [], ◌∷◌, ◌++◌, length, map, take, refl, sym, ap, ◌∙◌, subst, arith}
 use Rattle.std.specs.Prelude.{IsTrue}
 use Rattle.cl_base.specs.Disk.{DiskState}
 use Rattle.commit_counter.specs.Ends.{Fed}
@@ -18,7 +18,7 @@ use Rattle.run_phases.specs.Grown.{GoesOn}
 use Rattle.run_phases.specs.Logs.{FeedsLog, HoldsLog}
 use Rattle.run_phases.proofs.Fronts.{all_hold}
 use Rattle.run_world.specs.Lawful.{Lawful}
-use Rattle.run_world.specs.Seat.{Goes, Phase, Seat, opened}
+use Rattle.run_world.specs.Seat.{Goes, Seat, opened}
 use Rattle.run_world.specs.RunWorld.{Begins, RunWorld, seat}
 use Rattle.run_orders.specs.Kept.{IsMountable, IsStateOf}
 use Rattle.run_orders.specs.Stands.{HasModule, HaveInputs, IsUp, UpSeen, term_led, with_phase}

@@ -1,12 +1,11 @@
 -- What a crash leaves of the disk of a member under which a phase's writes failed.
 use Rattle.std.proofs.Common.{◌≡◌, ◌⊎◌, inl, inr, ℕ, ◌+◌, ◌≤◌, pos, Bool, true, false, ◌&&◌, List, [], ◌∷◌, ◌++◌, length, map, Some, refl, sym, ap, ◌∙◌, subst, if◌then◌else◌}
-use Rattle.std.specs.Prelude.{IsTrue, nat_eq}
+use Rattle.std.specs.Prelude.{nat_eq}
 use Rattle.std.specs.List.{list_any}
 use Rattle.std.proofs.lemmas.List.{append_assoc}
 use Rattle.std.proofs.lemmas.List.Elements.{filter-append}
-use Rattle.cl_base.specs.Disk.{CrashLeaves, DiskState, FileState, settled_file}
+use Rattle.cl_base.specs.Disk.{CrashLeaves, DiskState, settled_file}
 use Rattle.cl_base.specs.Images.{IsSound}
-use Rattle.cl_base.specs.Runs.{EachImage}
 use Rattle.cl_base.specs.declared.disk.Choice.{Choice}
 use Rattle.entry_log.specs.Durable.{Durable, SnapshotEntry, put_in, same_entry}
 use Rattle.entry_log.specs.Log.{Log, same_term}
@@ -23,8 +22,7 @@ use Rattle.snapshot_store.specs.Snapshots.{spelled}
 use Rattle.agreement.proofs.Snaps2.{same_term-is}
 use Rattle.consensus_core.specs.declared.change.Change.TheVariants as changes
 use Rattle.consensus_core.specs.Member.{Member, Whole, puts}
-use Rattle.consensus_agent.specs.Disks.{IsRight}
-use Rattle.consensus_agent.specs.Written.{AreWritten, IsCutOff, IsThereIn, Snapshot, StoppedAmong}
+use Rattle.consensus_agent.specs.Written.{IsCutOff, IsThereIn, Snapshot, StoppedAmong}
 use Rattle.consensus_agent.proofs.There.{there_either}
 use Rattle.world.proofs.Rows.{and_true}
 use Rattle.module_state.specs.Entries.{IsWellFormedOn}
@@ -36,7 +34,7 @@ use Rattle.member_rows.proofs.Images.{IsLeft, durable-left, left-image}
 use Rattle.member_phases.specs.Cuts.{HasFile, HasLastFile}
 use Rattle.member_phases.specs.Snapshots.{HasBase, all_put, snap_in, snapshot_as}
 use Rattle.member_phases.proofs.Owed.{each-append}
-use Rattle.member_phases.proofs.Puts.{NamedIn, counts, named-head, no-both, there-any}
+use Rattle.member_phases.proofs.Puts.{NamedIn, counts, named-head, there-any}
 use Rattle.member_phases.proofs.Written.{Keeps, all-kept, nat-same, others-stored}
 
 -- ---- of the snapshots that are due, those that were written and those behind them

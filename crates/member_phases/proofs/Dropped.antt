@@ -19,11 +19,11 @@ use Rattle.consensus_agent.specs.Written.{StoppedAmong}
 use Rattle.run_world.specs.Lawful.{Lawful}
 use Rattle.run_world.specs.Rounds.{phase_over}
 use Rattle.run_world.specs.Seat.{Seat, halted, rested}
-use Rattle.run_world.specs.RunWorld.{RunWorld, Stops, does, is_up, put, seat}
+use Rattle.run_world.specs.RunWorld.{RunWorld, Stops, does, put, seat}
 use Rattle.run_orders.specs.Stands.{EndedSeen, IsEnded, IsSeat, IsUp, UpSeen, term_led}
-use Rattle.member_rows.specs.Places.{run_ended, running_seat, stopped_seat}
+use Rattle.member_rows.specs.Places.{running_seat, stopped_seat}
 use Rattle.member_rows.proofs.Images.{IsLeft, durable-left, left-image}
-use Rattle.member_phases.specs.Calls.{commit_of, snapshots_due, stage_of}
+use Rattle.member_phases.specs.Calls.{commit_of, snapshots_due}
 use Rattle.member_phases.specs.Cuts.{HasLastFile}
 use Rattle.member_phases.specs.Frees.{DropsSo, FreeCut, FreeDropped, PhaseRuns, StopsSo, with_consumed}
 use Rattle.member_phases.specs.Seats.{all_fed, with_seat}
@@ -33,7 +33,7 @@ use Rattle.member_phases.proofs.Ended.{entries-at, same-commit, within}
 use Rattle.member_phases.proofs.Fed.{some-taken}
 use Rattle.member_phases.proofs.Freed.{Became, all-of, became}
 use Rattle.member_phases.proofs.Grown.{grown}
-use Rattle.member_phases.proofs.Halting.{CutHere, here-anywhere, here-between, seat-stops, still-honest}
+use Rattle.member_phases.proofs.Halting.{CutHere, here-anywhere, seat-stops, still-honest}
 use Rattle.member_phases.proofs.Lent.{all-further, consumed_by}
 use Rattle.member_phases.proofs.Phased.{inputs-count}
 use Rattle.member_phases.proofs.Phasing.{ends-act, takes-act}

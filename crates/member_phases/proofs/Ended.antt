@@ -1,5 +1,5 @@
 -- A member whose services have consumed all that is committed, in a phase that goes on or within one call.
-use Rattle.std.proofs.Common.{◌≡◌, ℕ, suc, ◌+◌, ◌-◌, ◌≤◌, ℤ, Bool, List, [], ◌∷◌, length, map, take, drop, Option, sym, ap, ◌∙◌, subst, arith}
+use Rattle.std.proofs.Common.{◌≡◌, ℕ, ◌≤◌, Bool, List, [], ◌∷◌, length, map, take, drop, sym, ap, ◌∙◌, subst, arith}
 use Rattle.cl_base.specs.Disk.{DiskState}
 use Rattle.commit_counter.specs.declared.role.Role.{Role}
 use Rattle.egress.specs.declared.sent.Sent.{Sent}

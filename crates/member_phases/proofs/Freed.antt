@@ -26,8 +26,8 @@ use Rattle.run_phases.specs.Grown.{GoesOn}
 use Rattle.run_phases.specs.Logs.{FeedsLog, HoldsLog}
 use Rattle.run_world.specs.Lawful.{Lawful}
 use Rattle.run_world.specs.Rounds.{phase_over}
-use Rattle.run_world.specs.Seat.{Fate, Faults, Goes, Seat, sent as at_its_end}
-use Rattle.run_world.specs.RunWorld.{RunWorld, committed, seat}
+use Rattle.run_world.specs.Seat.{Fate, Faults, Seat, sent as at_its_end}
+use Rattle.run_world.specs.RunWorld.{RunWorld, seat}
 use Rattle.run_orders.specs.Kept.{HasFaults, IsMountable, IsStateOf}
 use Rattle.run_orders.specs.Stands.{HaveInputs, IsUp, UpSeen, term_led}
 use Rattle.member_rows.specs.Calls.{GoesOn as MemberGoesOn}
@@ -39,7 +39,7 @@ use Rattle.member_phases.specs.Snapshots.{HasBase, all_put, snap_in, snapshot_as
 use Rattle.member_phases.proofs.Acts.{each_fate, ends-whole, faults_after, keeps-put}
 use Rattle.member_phases.proofs.Ended.{all-inputs, commit-within, entries-at, events-at, formed, records-are, same-commit, snapshots-are, state-after, within}
 use Rattle.member_phases.proofs.Events.{rest-events}
-use Rattle.member_phases.proofs.Going.{Earlier, IsFrontOf, all-earlier, going-grew}
+use Rattle.member_phases.proofs.Going.{IsFrontOf, all-earlier, going-grew}
 use Rattle.member_phases.proofs.Grown.{grown}
 use Rattle.member_phases.proofs.Halting.{up-keeps}
 use Rattle.member_phases.proofs.Phased.{inputs-count}

@@ -1,5 +1,5 @@
 -- Containers of a phase that goes on, once they consumed the log up to the commit: as if they had begun at the module's place.
-use Rattle.std.proofs.Common.{◌≡◌, ℕ, zero, suc, ◌+◌, ◌-◌, ◌≤◌, true, List, [], ◌∷◌, ◌++◌, length, map, take, drop, refl, sym, ap, ◌∙◌, subst, arith, zero-add, length-append, append_assoc, length-drop}
+use Rattle.std.proofs.Common.{◌≡◌, ℕ, suc, ◌+◌, ◌-◌, ◌≤◌, true, List, [], ◌∷◌, ◌++◌, length, take, drop, refl, sym, ap, ◌∙◌, arith, zero-add, length-append, append_assoc, length-drop}
 use Rattle.std.proofs.lemmas.List.{drop-append-le, drop-take, take-append-drop, take-take}
 use Rattle.std.proofs.Math.Seq.{drop-append_seam}
 use Rattle.cl_base.specs.declared.entry.Entry.{Entry}

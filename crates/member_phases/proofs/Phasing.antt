@@ -1,10 +1,10 @@
 -- The end of a phase that goes on, as acts of phases.
-use Rattle.std.proofs.Common.{◌≡◌, ℕ, true, List, [], ◌∷◌, ◌++◌, Option, Some, None, refl, sym, ap, ◌∙◌}
+use Rattle.std.proofs.Common.{◌≡◌, ℕ, true, List, [], ◌∷◌, ◌++◌, Option, Some, None, refl, sym, ◌∙◌}
 use Rattle.std.specs.List.{AllByRecursion}
 use Rattle.service_api.specs.declared.shipped.Kind.{Kind}
 use Rattle.run_world.specs.Rounds.{consume, phase_over, put_all}
 use Rattle.run_world.specs.Seat.{Fate}
-use Rattle.run_world.specs.RunWorld.{Act, Closes, Fails, RunWorld, Sends, Writes, after_acts, does}
+use Rattle.run_world.specs.RunWorld.{Act, Closes, Fails, RunWorld, Sends, after_acts, does}
 use Rattle.run_orders.specs.Phases.{PhasesAct, is_of_phase}
 use Rattle.member_phases.proofs.Worlds.{acts-append}
 

@@ -1,5 +1,5 @@
 -- A member that stopped in a phase, at rest.
-use Rattle.std.proofs.Common.{◌≡◌, ℕ, suc, ◌≤◌, Bool, true, false, List, [], ◌∷◌, ◌++◌, length, map, take, drop, refl, sym, ap, ◌∙◌, subst}
+use Rattle.std.proofs.Common.{◌≡◌, ℕ, suc, ◌≤◌, Bool, List, [], ◌∷◌, ◌++◌, length, map, take, drop, refl, sym, ap, ◌∙◌, subst}
 use Rattle.std.proofs.Math.Seq.{drop-append_seam}
 use Rattle.std.proofs.lemmas.List.{append_assoc, append-nil, length-take-le}
 use Rattle.cl_base.specs.Disk.{CrashLeaves, DiskState}
@@ -11,7 +11,7 @@ use Rattle.service_container.specs.Held.{Held as ContainerHeld}
 use Rattle.service_phases.specs.Pairs.{Each2}
 use Rattle.consensus_core.specs.Member.{Run, stopped}
 use Rattle.run_world.specs.Seat.{Seat, halted}
-use Rattle.run_orders.specs.Stands.{EndedSeen, HaveInputs, IsDown, IsEnded, IsSeat, UpSeen, containers_of, parts_of}
+use Rattle.run_orders.specs.Stands.{EndedSeen, HaveInputs, IsEnded, IsSeat, UpSeen, containers_of, parts_of}
 use Rattle.member_rows.specs.Places.{run_ended, stopped_seat}
 use Rattle.member_rows.proofs.Images.{IsLeft}
 use Rattle.member_phases.proofs.Owed.{each-append}

@@ -1,5 +1,5 @@
 -- A phase that goes on over calls: what it has of its services, what the calls that begin, feed, end and drop it say, and what they make of a run.
-use Rattle.std.specs.Prelude.{◌≡◌, ◌≤◌, ⊤, ℕ, ◌-◌, Bool, true, false, List, [], ◌∷◌, ◌++◌, length, map, take, drop}
+use Rattle.std.specs.Prelude.{◌≡◌, ◌≤◌, ⊤, ℕ, Bool, true, false, List, [], ◌∷◌, ◌++◌, length, map, take, drop}
 use Rattle.cl_base.specs.Disk.{DiskState}
 use Rattle.cl_base.specs.declared.disk.Choice.{Choice}
 use Rattle.commit_counter.specs.Ends.{Fed}

@@ -117,7 +117,7 @@ pub fn a_phase_breaks_off<D: Disk>()
     ensures dropped { (n : ℕ) (kinds : List Kind) (w : RunWorld) (m : ℕ) (u v : UpSeen D) (feeds : List Fed) → n ≤ 5 → length kinds ≤ 3 → Lawful n kinds w → IsUp D.state kinds u true (seat w m) → PhaseRuns kinds u feeds (seat w m) → FreeDropped u v feeds → DropsSo D.state kinds m v w }
     ensures stopped { (n : ℕ) (kinds : List Kind) (w : RunWorld) (m : ℕ) (u v : UpSeen D) (choice : Choice) (ended : List EndedSeen) (d : D) → Lawful n kinds w → IsTrue (D.is_honest u.disk.disk) → IsSeat D.state kinds (running_seat choice ended u true) (seat w m) → v.disk ≡ u.disk → CrashLeaves choice (D.state v.disk.disk) (D.state d)
         → (p : DropsSo D.state kinds m v w) → (does kinds (with_seat m (with_consumed p.inputs (seat w m)) w) (Stops m) ≡ with_seat m (rested (seat w m).faults.own (with_consumed p.inputs (seat w m))) w)
-            × IsSeat D.state kinds (stopped_seat ended v false d) (rested (seat w m).faults.own (with_consumed p.inputs (seat w m))) }
+        × IsSeat D.state kinds (stopped_seat ended v false d) (rested (seat w m).faults.own (with_consumed p.inputs (seat w m))) }
 {}
 
 /// What a driver has stands to the world still once a phase of a member that goes on began, was fed, ended or broke off on both sides.

@@ -1,5 +1,5 @@
 use Rattle.std.specs.Prelude.{IsTrue}
-use Rattle.std.proofs.Common.{ap, subst, sym}
+use Rattle.std.proofs.Common.{subst, sym}
 use Rattle.member_phases.proofs.Dropped.{drop-act, drop-stops, free-cut, free-drops}
 use Rattle.member_phases.proofs.a_phase_breaks_off.Goals as goal
 
