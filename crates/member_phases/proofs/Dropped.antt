@@ -11,7 +11,9 @@ use Rattle.member_disk.specs.Kept.{EachStands, Held as DiskHeld, Stands}
 use Rattle.service_api.specs.declared.shipped.Kind.{Kind}
 use Rattle.service_container.specs.Held.{Held}
 use Rattle.service_phases.specs.Pairs.{Each, Each2}
-use Rattle.service_phases.specs.Phases.{IsWithin}
+use Rattle.service_phases.specs.Phases.{IsWithin, Lending}
+use Rattle.run_phases.specs.Grown.{GoesOn}
+use Rattle.run_phases.specs.Logs.{HoldsLog}
 use Rattle.consensus_core.specs.declared.change.Change.TheVariants as changes
 use Rattle.consensus_core.specs.Member.{stopped}
 use Rattle.consensus_agent.specs.Consumed.{HaveRising}
@@ -23,7 +25,7 @@ use Rattle.run_world.specs.RunWorld.{RunWorld, Stops, does, put, seat}
 use Rattle.run_orders.specs.Stands.{EndedSeen, IsEnded, IsSeat, IsUp, UpSeen, term_led}
 use Rattle.member_rows.specs.Places.{running_seat, stopped_seat}
 use Rattle.member_rows.proofs.Images.{IsLeft, durable-left, left-image}
-use Rattle.member_phases.specs.Calls.{commit_of, snapshots_due}
+use Rattle.member_phases.specs.Calls.{commit_of, snapshots_due, stage_of}
 use Rattle.member_phases.specs.Cuts.{HasLastFile}
 use Rattle.member_phases.specs.Frees.{DropsSo, FreeCut, FreeDropped, PhaseRuns, StopsSo, with_consumed}
 use Rattle.member_phases.specs.Seats.{all_fed, with_seat}
@@ -88,7 +90,7 @@ module _ {D : Type 0} (state : D → DiskState) (is_told is_honest : D → Bool)
 
 -- ---- it was dropped
 
-module _ {D : Type 0} (state : D → DiskState) (kinds : List Kind) (n : ℕ) (w : RunWorld) (m : ℕ) (five : n ≤ 5) (three : length kinds ≤ 3) (lawful : Lawful n kinds w) (u v : UpSeen D) (feeds : List Fed) (up : IsUp state kinds u true (seat w m)) (runs : PhaseRuns kinds u feeds (seat w m)) (d : FreeDropped u v feeds) where
+module _ {D : Type 0} (state : D → DiskState) (kinds : List Kind) (n : ℕ) (w : RunWorld) (m : ℕ) (five : n ≤ 5) (three : length kinds ≤ 3) (lawful : Lawful n kinds w) (u x v : UpSeen D) (feeds : List Fed) (up : IsUp state kinds u true (seat w m)) (runs : PhaseRuns kinds u feeds (seat w m)) (lends : x.lending ≡ u.lending) (bases : x.base ≡ u.base) (d : FreeDropped x v feeds) where
   pub free-drops : DropsSo state kinds m v w
   free-drops =
       let s = seat w m in
@@ -96,14 +98,19 @@ module _ {D : Type 0} (state : D → DiskState) (kinds : List Kind) (n : ℕ) (w
       let commit = s.member.values.rest.commit in
       let goal : List Log = map (consumed_by u.base past) v.lending.kept in
       let fronts : Each (λ (xs : Log). xs ≡ take (length xs) past) s.run.inputs = each-has (λ (xs : Log). xs ≡ take (length xs) past) s.run.inputs (λ xs has. front-is xs past (inputs-front n kinds w m xs lawful up.up has).0) in
-      let none : Each (IsWithin past (commit_of u)) u.lending.kept = subst (Each (IsWithin past (commit_of u))) (sym runs.kept) tt in
-      let in-log : Each (IsWithin past commit) v.lending.kept = subst (λ (k : ℕ). Each (IsWithin past k) v.lending.kept) (same-commit state kinds n w m five three lawful u true up) (d.within past runs.holds none) in
-      let further = all-further past u.base s.applied commit up.within kinds 0 u.lending.lent v.lending.kept s.run.inputs up.inputs d.grew fronts in-log in
+      let none : Each (IsWithin past commit) x.lending.kept = subst (λ (l : List Held). Each (IsWithin past commit) l) (sym (ap (λ (l : Lending). l.kept) lends ∙ runs.kept)) tt in
+      let grew : Each2 GoesOn u.lending.lent v.lending.kept = subst (λ (l : Lending). Each2 GoesOn l.lent v.lending.kept) lends d.grew in
+      let same = same-commit state kinds n w m five three lawful u true up in
+      let holds : HoldsLog past (record (stage_of x) { commit = commit }) feeds =
+      subst (λ (l : Lending). HoldsLog past (record { lending = l; first = x.module_held.consumed; commit = commit; over = x.over }) feeds) (sym lends)
+      (subst (λ (k : ℕ). HoldsLog past (record { lending = u.lending; first = x.module_held.consumed; commit = k; over = x.over }) feeds) same (record { lent = runs.holds.lent; fed = runs.holds.fed })) in
+      let in-log : Each (IsWithin past commit) v.lending.kept = d.within past commit holds none in
+      let further = all-further past u.base s.applied commit up.within kinds 0 u.lending.lent v.lending.kept s.run.inputs up.inputs grew fronts in-log in
       let fed = some-taken n kinds w m (term_led u.role) u.over goal lawful up.up up.phase (inputs-count kinds u.base past 0 u.lending.lent s.run.inputs up.inputs) further in
       record {
         inputs = goal;
         acted = takes-act kinds m fed.0 w _ (sym fed.1);
-        ended = subst (λ (b : ℕ). Each2 IsEnded (map (λ (c : Held). record { from = b; inputs = c.inputs }) v.lending.kept) (map (λ (xs : Log). (s.run.first, xs)) goal)) (sym d.base) (each-dropped u.base s.run.first past v.lending.kept up.first up.within);
+        ended = subst (λ (b : ℕ). Each2 IsEnded (map (λ (c : Held). record { from = b; inputs = c.inputs }) v.lending.kept) (map (λ (xs : Log). (s.run.first, xs)) goal)) (sym (d.base ∙ bases)) (each-dropped u.base s.run.first past v.lending.kept up.first up.within);
       }
 
 -- and the member stops

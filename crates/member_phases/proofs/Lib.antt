@@ -27,3 +27,4 @@ pub mod Lent
 pub mod Fed
 pub mod Begun
 pub mod Dropped
+pub mod Beside

@@ -18,7 +18,7 @@ use Rattle.member_phases.proofs.Owed.{each-append}
 
 -- ---- what the services consumed
 
-parts-more : (rs : List Run) (r : Run) → parts_of (rs ++ r ∷ []) ≡ parts_of rs ++ map (λ (xs : Log). (r.first, xs)) r.inputs
+pub parts-more : (rs : List Run) (r : Run) → parts_of (rs ++ r ∷ []) ≡ parts_of rs ++ map (λ (xs : Log). (r.first, xs)) r.inputs
 parts-more [] r = append-nil (map (λ (xs : Log). (r.first, xs)) r.inputs)
 parts-more (q ∷ rs) r =
     ap (λ (ps : List (ℕ × Log)). map (λ (xs : Log). (q.first, xs)) q.inputs ++ ps) (parts-more rs r)

@@ -103,12 +103,21 @@ module _ {D : Type 0} (state_in : D → DiskState) (is_told is_honest : D → Bo
     pub stopped : HaveRising v.lending.kept → StoppedAmong state_in is_told is_honest (snapshots_due u v) u.disk v.disk
     pub base : v.base ≡ u.base
 
--- it was dropped at a stop: clauses of these names of `free_drop` (`grew` is the second field of its clause `back`)
+-- it was dropped, at a stop or after a call that failed: clauses of these names of `free_drop` (`grew` is the second field of its clause `back`; `within` at whichever commit what was published is within)
 pub record FreeDropped {D : Type 0} (u v : UpSeen D) (feeds : List Fed) : Type 0 where
   pub grew : Each2 GoesOn u.lending.lent v.lending.kept
-  pub within : (log : Log) → HoldsLog log (stage_of u) feeds → Each (IsWithin log (commit_of u)) u.lending.kept → Each (IsWithin log (commit_of u)) v.lending.kept
-  pub disk : v.disk ≡ u.disk
+  pub within : (log : Log) (commit : ℕ) → HoldsLog log (record (stage_of u) { commit = commit }) feeds → Each (IsWithin log commit) u.lending.kept → Each (IsWithin log commit) v.lending.kept
   pub base : v.base ≡ u.base
+
+-- a call of the member beside it left of its member and of its seat: its containers, as they are lent, the module's place and the log up to the commit, which doesn't fall; and the whole log, but for entries behind it, unless the phase is over
+pub record StaysBeside {D : Type 0} (u v : UpSeen D) (s t : Seat) : Type 0 where
+  pub lending : v.lending ≡ u.lending
+  pub consumed : v.module_held.consumed ≡ u.module_held.consumed
+  pub applied : t.applied ≡ s.applied
+  pub run : t.run ≡ s.run
+  pub rises : commit_of u ≤ commit_of v
+  pub front : take (commit_of u) t.member.durable.log ≡ take (commit_of u) s.member.durable.log
+  pub grows : v.over ≡ false → (u.over ≡ false) × ((more : Log) × (t.member.durable.log ≡ s.member.durable.log ++ more))
 
 -- ---- what they make of a run
 

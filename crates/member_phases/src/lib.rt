@@ -1,7 +1,7 @@
 //! What a phase makes of a member, tied to the world of a run.
 #![tactic(auto)]
 
-ghost use Rattle.std.specs.Prelude.{◌≡◌, ◌≤◌, ℕ, ◌-◌, ℤ, Bool, true, false, IsTrue, List, [], Option, length, map, fold, ◌++◌, drop, take};
+ghost use Rattle.std.specs.Prelude.{◌≡◌, ◌⊎◌, ◌≤◌, ◌^◌, ℕ, ◌-◌, ℤ, Bool, true, false, IsTrue, List, [], Option, Some, length, map, fold, ◌++◌, drop, take};
 ghost use Rattle.commit_counter.specs.Ends.{Fed};
 ghost use Rattle.commit_counter.specs.declared.role.Role.{Role};
 ghost use Rattle.consensus_agent.specs.Consumed.{HaveRising, outboxes};
@@ -11,7 +11,7 @@ ghost use Rattle.module_state.specs.Entries.{IsWellFormedOn, events_in};
 ghost use Rattle.module_state.specs.Places.{log_of};
 ghost use Rattle.module_state.specs.Services.{module_of};
 ghost use Rattle.owed_egress.specs.Taken.{module_over, outboxes_in, sent_over};
-ghost use Rattle.run_orders.specs.Stands.{AreRecords, EndedSeen, HaveInputs, IsRecord, IsSeat, IsUp, RunSeen, SeatSeen, Stands, UpSeen, more_sent, term_led};
+ghost use Rattle.run_orders.specs.Stands.{AreRecords, EndedSeen, HaveInputs, IsEnded, IsRecord, IsSeat, IsUp, RunSeen, SeatSeen, Stands, UpSeen, more_sent, parts_of, term_led};
 ghost use Rattle.service_api.specs.declared.shipped.Kind.{Kind};
 ghost use Rattle.service_container.specs.Held.{Held};
 ghost use Rattle.service_container.specs.declared.container.Served.{Served};
@@ -20,18 +20,25 @@ ghost use Rattle.service_runs.specs.Hosts.{Output, due_in, sent_in};
 ghost use Rattle.one_log.specs.Ruled.{rules_of};
 ghost use Rattle.run_world.specs.Lawful.{Lawful};
 ghost use Rattle.run_world.specs.Rounds.{consume};
-ghost use Rattle.run_world.specs.RunWorld.{RunWorld, Stops, after_acts, does, seat, with_records};
-ghost use Rattle.run_world.specs.Seat.{Goes, rested};
+ghost use Rattle.run_world.specs.RunWorld.{RunWorld, Stops, after_acts, does, due_at, seat, with_records};
+ghost use Rattle.run_world.specs.Seat.{Fate, Goes, Seat, acted, rested};
 ghost use Rattle.consensus_agent.specs.Written.{actions_over, snapshots_of};
 ghost use Rattle.entry_log.specs.Shape.{shape_of};
 ghost use Rattle.cl_base.specs.Disk.{CrashLeaves};
 ghost use Rattle.cl_base.specs.declared.disk.Choice.{Choice};
+ghost use Rattle.wire_prims.specs.Fields.{IsBytes};
+ghost use Rattle.sbe_consensus.specs.Spelling.{packet_of};
+ghost use Rattle.sbe_consensus.specs.declared.packet.Outgoing.{Outgoing};
+ghost use Rattle.sbe_consensus.specs.declared.packet.Packet.{Packet};
+ghost use Rattle.consensus_core.specs.declared.row.Row.{Row};
+ghost use Rattle.consensus_core.specs.Member.{After, Before, Whole, row_of_duty, row_of_packet};
 ghost use Rattle.egress.specs.Streams.{StreamSeen};
 ghost use Rattle.egress.specs.declared.sent.Sent.{Sent};
-ghost use Rattle.member_rows.specs.Places.{running_seat, stopped_seat};
+ghost use Rattle.member_rows.specs.Calls.{PacketDone, RowDone, duty_row};
+ghost use Rattle.member_rows.specs.Places.{run_ended, running_seat, stopped_seat};
 ghost use Rattle.member_phases.specs.Calls.{IsBetween, PhaseCut, PhaseDone, commit_of, snapshots_due};
 ghost use Rattle.member_phases.specs.Cuts.{HasLastFile, IsCutPhase};
-ghost use Rattle.member_phases.specs.Frees.{DropsSo, EndsSo, FreeBegun, FreeCut, FreeDropped, FreeEnded, FreeFed, GoesOnSo, PhaseRuns, StopsSo, with_consumed};
+ghost use Rattle.member_phases.specs.Frees.{DropsSo, EndsSo, FreeBegun, FreeCut, FreeDropped, FreeEnded, FreeFed, GoesOnSo, PhaseRuns, StaysBeside, StopsSo, with_consumed};
 ghost use Rattle.member_phases.specs.Grown.{GrewTo};
 ghost use Rattle.member_phases.specs.Phases.{IsPhase, phase_seen};
 ghost use Rattle.member_phases.specs.Seats.{all_fed, with_seat};
@@ -114,10 +121,24 @@ pub fn a_phase_breaks_off<D: Disk>()
     ensures cut { (n : ℕ) (kinds : List Kind) (w : RunWorld) (m : ℕ) (u v : UpSeen D) (feeds : List Fed) (choice : Choice) (ended : List EndedSeen) (d : D) → n ≤ 5 → length kinds ≤ 3 → Lawful n kinds w → IsTrue (D.is_honest u.disk.disk) → Each (HasBase (seat w m).member.durable.log) (snapshots_kept u.disk.kept.entries)
         → IsSeat D.state kinds (running_seat choice ended u true) (seat w m) → PhaseRuns kinds u feeds (seat w m) → (p : FreeCut D.state D.tells D.is_honest u v feeds) → ((r : HaveRising v.lending.kept) → HasLastFile D.state D.tells D.is_honest (snapshots_due u v) u.disk v.disk (p.stopped r))
         → CrashLeaves choice (D.state v.disk.disk) (D.state d) → StopsSo D.state kinds m (stopped_seat ended v false d) w }
-    ensures dropped { (n : ℕ) (kinds : List Kind) (w : RunWorld) (m : ℕ) (u v : UpSeen D) (feeds : List Fed) → n ≤ 5 → length kinds ≤ 3 → Lawful n kinds w → IsUp D.state kinds u true (seat w m) → PhaseRuns kinds u feeds (seat w m) → FreeDropped u v feeds → DropsSo D.state kinds m v w }
+    ensures dropped { (n : ℕ) (kinds : List Kind) (w : RunWorld) (m : ℕ) (u x v : UpSeen D) (feeds : List Fed) → n ≤ 5 → length kinds ≤ 3 → Lawful n kinds w → IsUp D.state kinds u true (seat w m) → PhaseRuns kinds u feeds (seat w m) → x.lending ≡ u.lending → x.base ≡ u.base → FreeDropped x v feeds
+        → DropsSo D.state kinds m v w }
     ensures stopped { (n : ℕ) (kinds : List Kind) (w : RunWorld) (m : ℕ) (u v : UpSeen D) (choice : Choice) (ended : List EndedSeen) (d : D) → Lawful n kinds w → IsTrue (D.is_honest u.disk.disk) → IsSeat D.state kinds (running_seat choice ended u true) (seat w m) → v.disk ≡ u.disk → CrashLeaves choice (D.state v.disk.disk) (D.state d)
         → (p : DropsSo D.state kinds m v w) → (does kinds (with_seat m (with_consumed p.inputs (seat w m)) w) (Stops m) ≡ with_seat m (rested (seat w m).faults.own (with_consumed p.inputs (seat w m))) w)
         × IsSeat D.state kinds (stopped_seat ended v false d) (rested (seat w m).faults.own (with_consumed p.inputs (seat w m))) }
+{}
+
+/// A phase that goes on does so beside the rows of its member that its phase lets through. And where a fault ended a row, or a look, and then the phase was dropped, what is left stands to the seat after it whose services had consumed what came back.
+pub fn a_phase_goes_on_beside_rows<D: Disk>()
+    ensures beside { (kinds : List Kind) (u v : UpSeen D) (feeds : List Fed) (s t : Seat) → PhaseRuns kinds u feeds s → StaysBeside u v s t → PhaseRuns kinds v feeds t }
+    ensures packet { (n : ℕ) (kinds : List Kind) (w : RunWorld) (m now : ℕ) (u v : UpSeen D) (bytes : List ℕ) (p : Packet) (out : List Outgoing) (f : Fate) → Lawful n kinds w → IsBytes bytes → packet_of bytes ≡ Some p → IsUp D.state kinds u true (seat w m) → PacketDone D.state D.tells D.is_honest bytes now u v out
+        → f.cut ≡ Whole → StaysBeside u v (seat w m) (acted (row_of_packet (seat w m).member p now) now f (seat w m)) }
+    ensures duty { (n : ℕ) (kinds : List Kind) (w : RunWorld) (m now : ℕ) (u v : UpSeen D) (out : List Outgoing) (f : Fate) → n ≤ 5 → length kinds ≤ 3 → Lawful n kinds w → now ≤ 2 ^ 60 → IsUp D.state kinds u true (seat w m) → RowDone D.state D.tells D.is_honest (duty_row u now) now u v out
+        → f.cut ≡ Whole → StaysBeside u v (seat w m) (acted (row_of_duty (seat w m).member (due_at kinds (seat w m) now) now) now f (seat w m)) }
+    ensures broken { (kinds : List Kind) (row : Row) (now : ℕ) (f : Fate) (s : Seat) (x v : UpSeen D) (ended : List EndedSeen) (d : D) (inputs : List Log) → (f.cut ≡ Before) ⊎ (f.cut ≡ After) → IsSeat D.state kinds (stopped_seat ended x true d) (acted row now f s) → Each2 IsEnded ended (parts_of s.ended)
+        → Each2 IsEnded (run_ended v false) (map (λ (xs : Log). (s.run.first, xs)) inputs) → IsSeat D.state kinds (stopped_seat ended v false d) (acted row now f (with_consumed inputs s)) }
+    ensures failed { (kinds : List Kind) (own : ℕ) (s : Seat) (x v : UpSeen D) (ended : List EndedSeen) (d : D) (inputs : List Log) → IsSeat D.state kinds (stopped_seat ended x true d) (rested own s) → Each2 IsEnded ended (parts_of s.ended)
+        → Each2 IsEnded (run_ended v false) (map (λ (xs : Log). (s.run.first, xs)) inputs) → IsSeat D.state kinds (stopped_seat ended v false d) (rested own (with_consumed inputs s)) }
 {}
 
 /// What a driver has stands to the world still once a phase of a member that goes on began, was fed, ended or broke off on both sides.

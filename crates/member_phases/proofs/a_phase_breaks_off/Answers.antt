@@ -8,7 +8,7 @@ returns-clause-cut g c n kinds w m u v feeds choice ended d five three lawful ho
     free-cut _ _ _ kinds n w m five three lawful u v feeds choice ended d is runs p honest (g.met.D.Disk.honest_tells u.disk.disk honest) bases (λ right f. record { reads = g.met.D.Disk.reads_is_image v.disk.disk f right; synced = g.met.D.Disk.synced_is_image v.disk.disk f right }) crash file
 
 pub returns-clause-dropped : goal.returns-clause-dropped
-returns-clause-dropped g c n kinds w m u v feeds five three lawful up runs d = free-drops _ kinds n w m five three lawful u v feeds up runs d
+returns-clause-dropped g c n kinds w m u x v feeds five three lawful up runs lends bases d = free-drops _ kinds n w m five three lawful u x v feeds up runs lends bases d
 
 pub returns-clause-stopped : goal.returns-clause-stopped
 returns-clause-stopped g c n kinds w m u v choice ended d lawful honest is same crash p =
