@@ -11,6 +11,7 @@ ghost use Rattle.module_state.specs.Entries.{IsWellFormedOn, events_in};
 ghost use Rattle.module_state.specs.Places.{log_of};
 ghost use Rattle.module_state.specs.Services.{module_of};
 ghost use Rattle.owed_egress.specs.Taken.{module_over, outboxes_in, sent_over};
+ghost use Rattle.run_orders.specs.Phases.{PhasesAct};
 ghost use Rattle.run_orders.specs.Stands.{AreRecords, EndedSeen, HaveInputs, IsEnded, IsRecord, IsSeat, IsUp, RunSeen, SeatSeen, Stands, UpSeen, more_sent, parts_of, term_led};
 ghost use Rattle.service_api.specs.declared.shipped.Kind.{Kind};
 ghost use Rattle.service_container.specs.Held.{Held};
@@ -131,6 +132,8 @@ pub fn a_phase_breaks_off<D: Disk>()
 /// A phase that goes on does so beside the rows of its member that its phase lets through. And where a fault ended a row, or a look, and then the phase was dropped, what is left stands to the seat after it whose services had consumed what came back.
 pub fn a_phase_goes_on_beside_rows<D: Disk>()
     ensures beside { (kinds : List Kind) (u v : UpSeen D) (feeds : List Fed) (s t : Seat) → PhaseRuns kinds u feeds s → StaysBeside u v s t → PhaseRuns kinds v feeds t }
+    ensures appended { (u v : UpSeen D) (s t : Seat) (more : Log) → v.lending ≡ u.lending → v.module_held.consumed ≡ u.module_held.consumed → t.applied ≡ s.applied → t.run ≡ s.run → commit_of u ≤ commit_of v → commit_of u ≤ length s.member.durable.log
+        → t.member.durable.log ≡ s.member.durable.log ++ more → v.over ≡ u.over → StaysBeside u v s t }
     ensures packet { (n : ℕ) (kinds : List Kind) (w : RunWorld) (m now : ℕ) (u v : UpSeen D) (bytes : List ℕ) (p : Packet) (out : List Outgoing) (f : Fate) → Lawful n kinds w → IsBytes bytes → packet_of bytes ≡ Some p → IsUp D.state kinds u true (seat w m) → PacketDone D.state D.tells D.is_honest bytes now u v out
         → f.cut ≡ Whole → StaysBeside u v (seat w m) (acted (row_of_packet (seat w m).member p now) now f (seat w m)) }
     ensures duty { (n : ℕ) (kinds : List Kind) (w : RunWorld) (m now : ℕ) (u v : UpSeen D) (out : List Outgoing) (f : Fate) → n ≤ 5 → length kinds ≤ 3 → Lawful n kinds w → now ≤ 2 ^ 60 → IsUp D.state kinds u true (seat w m) → RowDone D.state D.tells D.is_honest (duty_row u now) now u v out
@@ -139,6 +142,12 @@ pub fn a_phase_goes_on_beside_rows<D: Disk>()
         → Each2 IsEnded (run_ended v false) (map (λ (xs : Log). (s.run.first, xs)) inputs) → IsSeat D.state kinds (stopped_seat ended v false d) (acted row now f (with_consumed inputs s)) }
     ensures failed { (kinds : List Kind) (own : ℕ) (s : Seat) (x v : UpSeen D) (ended : List EndedSeen) (d : D) (inputs : List Log) → IsSeat D.state kinds (stopped_seat ended x true d) (rested own s) → Each2 IsEnded ended (parts_of s.ended)
         → Each2 IsEnded (run_ended v false) (map (λ (xs : Log). (s.run.first, xs)) inputs) → IsSeat D.state kinds (stopped_seat ended v false d) (rested own (with_consumed inputs s)) }
+{}
+
+/// Acts of phases, one after the other, are acts of phases.
+pub fn acts_of_phases_add_up()
+    ensures none { (kinds : List Kind) (w : RunWorld) → PhasesAct kinds w w }
+    ensures both { (kinds : List Kind) (u v w : RunWorld) → PhasesAct kinds u v → PhasesAct kinds v w → PhasesAct kinds u w }
 {}
 
 /// What a driver has stands to the world still once a phase of a member that goes on began, was fed, ended or broke off on both sides.
