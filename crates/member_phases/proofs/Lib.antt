@@ -28,3 +28,4 @@ pub mod Fed
 pub mod Begun
 pub mod Dropped
 pub mod Beside
+pub mod Courses

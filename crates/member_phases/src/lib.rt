@@ -11,7 +11,7 @@ ghost use Rattle.module_state.specs.Entries.{IsWellFormedOn, events_in};
 ghost use Rattle.module_state.specs.Places.{log_of};
 ghost use Rattle.module_state.specs.Services.{module_of};
 ghost use Rattle.owed_egress.specs.Taken.{module_over, outboxes_in, sent_over};
-ghost use Rattle.run_orders.specs.Phases.{PhasesAct};
+ghost use Rattle.run_orders.specs.Phases.{AllGoOn, AllRest, PhasesAct};
 ghost use Rattle.run_orders.specs.Stands.{AreRecords, EndedSeen, HaveInputs, IsEnded, IsRecord, IsSeat, IsUp, RunSeen, SeatSeen, Stands, UpSeen, more_sent, parts_of, term_led};
 ghost use Rattle.service_api.specs.declared.shipped.Kind.{Kind};
 ghost use Rattle.service_container.specs.Held.{Held};
@@ -39,7 +39,7 @@ ghost use Rattle.member_rows.specs.Calls.{PacketDone, RowDone, duty_row};
 ghost use Rattle.member_rows.specs.Places.{run_ended, running_seat, stopped_seat};
 ghost use Rattle.member_phases.specs.Calls.{IsBetween, PhaseCut, PhaseDone, commit_of, snapshots_due};
 ghost use Rattle.member_phases.specs.Cuts.{HasLastFile, IsCutPhase};
-ghost use Rattle.member_phases.specs.Frees.{DropsSo, EndsSo, FreeBegun, FreeCut, FreeDropped, FreeEnded, FreeFed, GoesOnSo, PhaseRuns, StaysBeside, StopsSo, with_consumed};
+ghost use Rattle.member_phases.specs.Frees.{DropsSo, EndsSo, FreeBegun, FreeCut, FreeDropped, FreeEnded, FreeFed, GoesOnSo, IsOff, IsOn, PhaseRuns, StaysBeside, StopsSo, with_consumed};
 ghost use Rattle.member_phases.specs.Grown.{GrewTo};
 ghost use Rattle.member_phases.specs.Phases.{IsPhase, phase_seen};
 ghost use Rattle.member_phases.specs.Seats.{all_fed, with_seat};
@@ -157,4 +157,10 @@ pub fn a_phase_that_goes_on_is_seen<D: Disk>()
     ensures ends { (kinds : List Kind) (x : RunSeen D) (w : RunWorld) (m : ℕ) (u v : UpSeen D) (sent : List Sent) (choice : Choice) (ended : List EndedSeen) → Stands D.state kinds x w → IsSeat D.state kinds (running_seat choice ended u true) (seat w m)
         → (p : EndsSo D.state kinds m u v sent w) → Stands D.state kinds (phase_seen m (running_seat choice ended v false) sent x) (with_records p.records (with_seat m p.after w)) }
     ensures stops { (kinds : List Kind) (x : RunSeen D) (w : RunWorld) (m : ℕ) (y : SeatSeen D) → Stands D.state kinds x w → (p : StopsSo D.state kinds m y w) → Stands D.state kinds (phase_seen m y [] x) (with_seat m p.after w) }
+{}
+
+/// Where each member that runs is seen in a phase that goes on, so it is in the world; and where each is seen between two phases, no member has one there.
+pub fn phases_are_as_they_are_seen<D: Disk>()
+    ensures on { (kinds : List Kind) (x : RunSeen D) (w : RunWorld) → Stands D.state kinds x w → Each (λ (y : SeatSeen D). IsOn y.home) x.seats → AllGoOn w }
+    ensures off { (kinds : List Kind) (x : RunSeen D) (w : RunWorld) → Stands D.state kinds x w → Each (λ (y : SeatSeen D). IsOff y.home) x.seats → AllRest w }
 {}
