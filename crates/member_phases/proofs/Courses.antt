@@ -1,5 +1,5 @@
 -- Which phases go on in a world, by what a driver has.
-use Rattle.std.proofs.Common.{◌≡◌, ℕ, zero, suc, Bool, true, false, ◌&&◌, List, [], ◌∷◌, length, sym, ap, ◌∙◌}
+use Rattle.std.proofs.Common.{◌≡◌, ℕ, zero, suc, true, false, List, [], ◌∷◌, length, sym, ap, ◌∙◌}
 use Rattle.std.specs.Prelude.{nat_lt, not, slice_index_or}
 use Rattle.cl_base.specs.Disk.{DiskState}
 use Rattle.service_api.specs.declared.shipped.Kind.{Kind}

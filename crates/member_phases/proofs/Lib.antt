@@ -29,3 +29,4 @@ pub mod Begun
 pub mod Dropped
 pub mod Beside
 pub mod Courses
+pub mod Taken

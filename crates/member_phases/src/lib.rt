@@ -21,7 +21,7 @@ ghost use Rattle.service_runs.specs.Hosts.{Output, due_in, sent_in};
 ghost use Rattle.one_log.specs.Ruled.{rules_of};
 ghost use Rattle.run_world.specs.Lawful.{Lawful};
 ghost use Rattle.run_world.specs.Rounds.{consume};
-ghost use Rattle.run_world.specs.RunWorld.{RunWorld, Stops, after_acts, does, due_at, seat, with_records};
+ghost use Rattle.run_world.specs.RunWorld.{RunWorld, Stops, after_acts, does, due_at, is_free, put, row_at, seat, with_records};
 ghost use Rattle.run_world.specs.Seat.{Fate, Goes, Seat, acted, rested};
 ghost use Rattle.consensus_agent.specs.Written.{actions_over, snapshots_of};
 ghost use Rattle.entry_log.specs.Shape.{shape_of};
@@ -32,7 +32,7 @@ ghost use Rattle.sbe_consensus.specs.Spelling.{packet_of};
 ghost use Rattle.sbe_consensus.specs.declared.packet.Outgoing.{Outgoing};
 ghost use Rattle.sbe_consensus.specs.declared.packet.Packet.{Packet};
 ghost use Rattle.consensus_core.specs.declared.row.Row.{Row};
-ghost use Rattle.consensus_core.specs.Member.{After, Before, Whole, row_of_duty, row_of_packet};
+ghost use Rattle.consensus_core.specs.Member.{After, Before, Whole, row_of_duty, row_of_packet, sent_by};
 ghost use Rattle.egress.specs.Streams.{StreamSeen};
 ghost use Rattle.egress.specs.declared.sent.Sent.{Sent};
 ghost use Rattle.member_rows.specs.Calls.{PacketDone, RowDone, duty_row};
@@ -144,6 +144,14 @@ pub fn a_phase_goes_on_beside_rows<D: Disk>()
         → Each2 IsEnded (run_ended v false) (map (λ (xs : Log). (s.run.first, xs)) inputs) → IsSeat D.state kinds (stopped_seat ended v false d) (rested own (with_consumed inputs s)) }
 {}
 
+/// A row of a member whose services consumed some entries just before makes of the world what it makes of its seat with these: the row, what is due and whether the member is free for it are the same.
+pub fn a_row_follows_takes()
+    ensures row { (w : RunWorld) (m : ℕ) (inputs : List Log) (row : Row) (f : Fate) → (seat w m).member.up ≡ true
+        → row_at m row f (with_seat m (with_consumed inputs (seat w m)) w) ≡ put m (acted row w.now f (with_consumed inputs (seat w m))) (sent_by row f.cut (seat w m).member) w }
+    ensures free { (w : RunWorld) (m : ℕ) (inputs : List Log) → (seat w m).member.up ≡ true → is_free (with_seat m (with_consumed inputs (seat w m)) w) m ≡ is_free w m }
+    ensures due { (kinds : List Kind) (w : RunWorld) (m now : ℕ) (inputs : List Log) → (seat w m).member.up ≡ true → due_at kinds (seat (with_seat m (with_consumed inputs (seat w m)) w) m) now ≡ due_at kinds (seat w m) now }
+{}
+
 /// Acts of phases, one after the other, are acts of phases.
 pub fn acts_of_phases_add_up()
     ensures none { (kinds : List Kind) (w : RunWorld) → PhasesAct kinds w w }
@@ -156,6 +164,7 @@ pub fn a_phase_that_goes_on_is_seen<D: Disk>()
         → (p : GoesOnSo D.state kinds m v feeds w) → Stands D.state kinds (phase_seen m (running_seat choice ended v true) [] x) (with_seat m p.after w) }
     ensures ends { (kinds : List Kind) (x : RunSeen D) (w : RunWorld) (m : ℕ) (u v : UpSeen D) (sent : List Sent) (choice : Choice) (ended : List EndedSeen) → Stands D.state kinds x w → IsSeat D.state kinds (running_seat choice ended u true) (seat w m)
         → (p : EndsSo D.state kinds m u v sent w) → Stands D.state kinds (phase_seen m (running_seat choice ended v false) sent x) (with_records p.records (with_seat m p.after w)) }
+    ensures seat { (kinds : List Kind) (x : RunSeen D) (w : RunWorld) (m : ℕ) (y : SeatSeen D) (s : Seat) → Stands D.state kinds x w → IsSeat D.state kinds y s → Stands D.state kinds (phase_seen m y [] x) (with_seat m s w) }
     ensures stops { (kinds : List Kind) (x : RunSeen D) (w : RunWorld) (m : ℕ) (y : SeatSeen D) → Stands D.state kinds x w → (p : StopsSo D.state kinds m y w) → Stands D.state kinds (phase_seen m y [] x) (with_seat m p.after w) }
 {}
 
