@@ -72,7 +72,7 @@ module _ {D : Type 0} (state : D → DiskState) (is_told is_honest : D → Bool)
       let done = packet-done state is_told is_honest kinds u v d.going choice ended n w m w.now q.1.bytes pk d.out lawful (tells u.disk.disk ok) ok fits read here did in
       let inside = (one state is_told is_honest kinds sound tells n x w five three lawful stands m y there honest).within in
       let free = is-free state kinds w m u d.going inside here.home (its-call state is_told is_honest kinds sound tells n x w five three lawful stands m y there honest u d.going choice ended is may) in
-      let turn = whole-turn state kinds (seen_taken x) w (without w) Hands m (row_of_packet (seat w m).member pk w.now) (taken-stands state kinds x w stands) (packet-is state kinds w q pk first read free) v d.going choice ended d.out done in
+      let turn = whole-turn state kinds (seen_taken x) w (without state kinds w) Hands m (row_of_packet (seat w m).member pk w.now) (taken-stands state kinds x w stands) (packet-is state kinds w q pk first read free) v d.going choice ended d.out done in
       record {
         fate = turn.fate;
         stands = subst (λ (z : OneSeen D). Stands state kinds (with_one m z (seen_taken x)) (does kinds w (Hands turn.fate))) (sym d.gives)
@@ -92,7 +92,7 @@ module _ {D : Type 0} (state : D → DiskState) (is_told is_honest : D → Bool)
       let acted = packet-cut state is_told is_honest kinds u v d.going choice ended d.fell.disk (sound v.disk.disk) d.fell.left ok (seat w m) w.now q.1.bytes pk fits read here cut in
       let inside = (one state is_told is_honest kinds sound tells n x w five three lawful stands m y there honest).within in
       let free = is-free state kinds w m u d.going inside here.home (its-call state is_told is_honest kinds sound tells n x w five three lawful stands m y there honest u d.going choice ended is may) in
-      let turn = cut-turn state kinds (seen_taken x) w (without w) Hands m (row_of_packet (seat w m).member pk w.now) (taken-stands state kinds x w stands) (packet-is state kinds w q pk first read free) v d.going ended d.fell.disk acted in
+      let turn = cut-turn state kinds (seen_taken x) w (without state kinds w) Hands m (row_of_packet (seat w m).member pk w.now) (taken-stands state kinds x w stands) (packet-is state kinds w q pk first read free) v d.going ended d.fell.disk acted in
       record {
         fate = turn.fate;
         stands = subst (λ (z : OneSeen D). Stands state kinds (with_one m z (seen_taken x)) (does kinds w (Hands turn.fate))) (sym d.fell.stopped)

@@ -1,5 +1,5 @@
 -- A stop, as an act.
-use Rattle.std.proofs.Common.{◌≡◌, ℕ, Bool, List, [], length, Some, sym, ap, ◌∙◌, subst, arith}
+use Rattle.std.proofs.Common.{◌≡◌, ℕ, Bool, false, List, [], length, Some, sym, ap, ◌∙◌, subst, arith}
 use Rattle.std.specs.Prelude.{IsTrue, slice_get}
 use Rattle.cl_base.specs.Disk.{DiskState}
 use Rattle.cl_base.specs.Images.{IsSound}

@@ -38,5 +38,5 @@ pub fn what_is_asked_turns<D: Disk>()
 /// A member that stops is an act of the run's world.
 pub fn a_stop_turns<D: Disk>()
     ensures { (n : ℕ) (kinds : List Kind) (x : RunSeen D) (w : RunWorld) (m : ℕ) (y : SeatSeen D) (p : OneSeen D) → Stands D.state kinds x w → slice_get x.seats m ≡ Some y
-        → IsTrue (D.is_honest (disk_of y.home)) → Stopped D.state D.is_honest (one_of y x) p → IsAct D.state D.is_honest kinds (λ f. Stops m) m p x w }
+        → IsTrue (D.is_honest (disk_of y.home)) → Stopped D.state D.tells D.is_honest (one_of y x) p → IsAct D.state D.is_honest kinds (λ f. Stops m) m p x w }
 {}
