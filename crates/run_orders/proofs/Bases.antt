@@ -1,5 +1,5 @@
 -- Where the terms of snapshots begin, as the log grows and in its first entries.
-use Rattle.std.proofs.Common.{◌≡◌, inl, inr, ℕ, suc, ◌+◌, ℤ, pos, Bool, true, false, List, [], ◌∷◌, ◌++◌, length, take, drop, refl, sym, ap, ◌∙◌, subst, arith, zero-add, take-append-drop, if◌then◌else◌}
+use Rattle.std.proofs.Common.{◌≡◌, inl, inr, ℕ, suc, ◌+◌, ℤ, pos, Bool, true, false, List, [], ◌∷◌, ◌++◌, length, take, drop, refl, sym, ap, ◌∙◌, subst, arith, take-append-drop, if◌then◌else◌}
 use Rattle.std.specs.Prelude.{Contains}
 use Rattle.std.specs.Ordering.{int_eq}
 use Rattle.std.proofs.lemmas.Bool.Decides.{Decides-int_eq}
@@ -34,10 +34,10 @@ base-append term [] bs t has is = absurd (let low = has.1 in omega (arith, low))
 base-append term (a ∷ as') bs t has is = by (λ more. base-append term as' bs t more is) (int_eq a.term term) refl
   where
     clash : int_eq a.term term ≡ true → int_eq a.term term ≡ false → ⊥
-    clash yes' no = cc
+    clash same other = cc
 
     later : int_eq a.term term ≡ false → Contains as' t
-    later no = elim (cons-cases a t as' has) [ inl same ↦ absurd (clash ((Decides-int_eq a.term term).1 (ap (λ (x : NewTerm). x.term) same ∙ is)) no) | inr more ↦ more ]
+    later apart = elim (cons-cases a t as' has) [ inl same ↦ absurd (clash ((Decides-int_eq a.term term).1 (ap (λ (x : NewTerm). x.term) same ∙ is)) apart) | inr more ↦ more ]
 
     by : (Contains as' t → base_of term (as' ++ bs) ≡ base_of term as') → (b : Bool) → int_eq a.term term ≡ b → (if b then a.base else base_of term (as' ++ bs)) ≡ (if b then a.base else base_of term as')
     by again true e = refl

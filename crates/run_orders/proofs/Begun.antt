@@ -1,5 +1,5 @@
 -- In a lawful world the term of each snapshot of a member begins in its log.
-use Rattle.std.proofs.Common.{◌≡◌, ◌≢◌, inl, inr, ℕ, zero, suc, ◌+◌, ◌<◌, ◌≤◌, ◌==◌, ◌&&◌, ℤ, pos, negsuc, ◌≤ℤ◌, Bool, true, List, [], ◌∷◌, ◌++◌, length, take, drop, Some, refl, sym, ap, ◌∙◌, subst, arith, length-append, take-append-drop, if◌then◌else◌}
+use Rattle.std.proofs.Common.{◌≡◌, ◌≢◌, inl, inr, ℕ, zero, suc, ◌+◌, ◌<◌, ◌≤◌, ◌==◌, ◌&&◌, ℤ, negsuc, Bool, true, false, List, [], ◌∷◌, ◌++◌, length, take, drop, Some, refl, sym, ap, ◌∙◌, subst, arith, length-append, if◌then◌else◌}
 use Rattle.std.specs.Prelude.{Contains, Option, None, slice_get}
 use Rattle.std.specs.Int.{w64, cast_unsigned}
 use Rattle.std.specs.List.{AllByRecursion}
@@ -9,10 +9,9 @@ use Rattle.std.specs.Ordering.{int_eq}
 use Rattle.std.proofs.lemmas.Bool.{and_from, cases_Bool, eq-eqb}
 use Rattle.std.proofs.lemmas.Bool.Decides.{Decides-int_eq}
 use Rattle.std.proofs.lemmas.Int.{ints}
-use Rattle.std.proofs.lemmas.List.Elements.{All-head, Contains-append_right}
+use Rattle.std.proofs.lemmas.List.Elements.{Contains-append_right}
 use Rattle.agreement.proofs.Snaps2.{cons-here}
 use Rattle.agreement.proofs.Fronts.{last-snoc}
-use Rattle.agreement.proofs.Second.{Fits}
 use Rattle.cl_base.specs.declared.entry.Entry.{Entry}
 use Rattle.wire_prims.specs.Fields.{i64_at, le16, length-le16, u16_at, u16_at-put}
 use Rattle.wire_prims.specs.Strict.{block_bytes, message}
@@ -42,7 +41,7 @@ use Rattle.run_world.specs.Lawful.{Lawful}
 use Rattle.run_world.specs.RunWorld.{RunWorld, seat}
 use Rattle.run_world.proofs.Shown.{member-shown}
 use Rattle.run_orders.specs.Kept.{Begins}
-use Rattle.run_orders.proofs.Bases.{begins-more, terms-append}
+use Rattle.run_orders.proofs.Bases.{terms-append}
 
 -- ---- the entry by which a term begins
 
@@ -78,10 +77,7 @@ opens-there xs rest x at now leader event is =
 
 each-at : {X : Type 0} (P : X → Type 0) (xs : List X) (k : ℕ) (x : X) → Each P xs → slice_get xs k ≡ Some x → P x
 each-at P [] k x each at = absurd (cc)
-each-at P (y ∷ xs) zero x each at = subst P (some-is y x at) each.0
-  where
-    some-is : (a b : X) → Some a ≡ Some b → a ≡ b
-    some-is a b e = cc
+each-at P (y ∷ xs) zero x each at = subst P (cc) each.0
 each-at P (y ∷ xs) (suc k) x each at = each-at P xs k x each.1 at
 
 all-events : (es : List Event) → AllByRecursion IsSpellable es → Each IsEventEntry (log_of es)
@@ -126,7 +122,7 @@ module _ (w : World) (log : Log) (opens : OpensTerms w log) (events : Each IsEve
       ]
     where
       clash : {b : Bool} → b ≡ true → b ≡ false → ⊥
-      clash yes' no = cc
+      clash same other = cc
 
 -- ---- of each snapshot of a member
 
