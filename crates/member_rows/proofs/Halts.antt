@@ -61,11 +61,14 @@ each-ended (kind ∷ kinds) base first log number (c ∷ cs) (xs ∷ xss) same w
     (record { from = same; inputs = past base log xs c.inputs within have.0.inputs }, each-ended kinds base first log (suc number) cs xss same within have.1)
 
 -- of a run that ends, behind those that ended before
-pub all-ended : (kinds : List Kind) (ended : List EndedSeen) (rs : List Run) (r : Run) (base : ℕ) (log : Log) (cs : List ContainerHeld) → base ≡ r.first → base ≤ length log → Each2 IsEnded ended (parts_of rs) → HaveInputs kinds base log 0 cs r.inputs
-    → Each2 IsEnded (ended ++ map (seen base) cs) (parts_of (rs ++ r ∷ []))
-all-ended kinds ended rs r base log cs first within each have =
-    subst (Each2 IsEnded (ended ++ map (seen base) cs)) (sym (parts-more rs r))
-    (each-append IsEnded ended (parts_of rs) (map (seen base) cs) (map (λ (xs : Log). (r.first, xs)) r.inputs) each (each-ended kinds base r.first log 0 cs r.inputs first within have))
+pub run-ends : {D : Type 0} (state : D → DiskState) (kinds : List Kind) (u v : UpSeen D) (going : Bool) (s : Seat) (ended : List EndedSeen) → v.base ≡ u.base → v.lending ≡ u.lending → IsUp state kinds u going s → Each2 IsEnded ended (parts_of s.ended)
+    → Each2 IsEnded (ended ++ run_ended v going) (parts_of (s.ended ++ s.run ∷ []))
+run-ends state kinds u v going s ended base lending up each =
+    subst (λ (ps : List (ℕ × Log)). Each2 IsEnded (ended ++ run_ended v going) ps) (sym (parts-more s.ended s.run))
+    (each-append IsEnded ended (parts_of s.ended) (run_ended v going) (map (λ (xs : Log). (s.run.first, xs)) s.run.inputs) each
+    (subst (λ (b : ℕ). Each2 IsEnded (map (seen b) (containers_of going v.lending)) (map (λ (xs : Log). (s.run.first, xs)) s.run.inputs)) (sym base)
+    (subst (λ (l : Lending). Each2 IsEnded (map (seen u.base) (containers_of going l)) (map (λ (xs : Log). (s.run.first, xs)) s.run.inputs)) (sym lending)
+    (each-ended kinds u.base s.run.first s.member.durable.log 0 (containers_of going u.lending) s.run.inputs up.first up.within up.inputs))))
 
 -- a member that stopped, and the disk that is left
 pub left-down : {D : Type 0} (state : D → DiskState) (kinds : List Kind) (disk : D) (e : Durable) (own : ℕ) (t : Seat) → IsLeft (length kinds) e (state disk).files → IsDown state kinds disk (stops_so (stopped e) own t)
@@ -112,10 +115,7 @@ module _ {D : Type 0} (state : D → DiskState) (is_told is_honest : D → Bool)
   left (inr dur) = inr (durable-left choice (state v.disk.disk) (state disk) crash sound row.change u.disk.kept (length kinds) (state u.disk.disk).files s.member.durable (d.went.files right) up.mountable is-held (subst (λ (l : Log). Each (HasBase (changed_log row.change l)) (snapshots_of u.disk.kept.entries)) up.durable.log bases) up.durable dur)
 
   ends : Each2 IsEnded (ended ++ run_ended v going) (parts_of (s.ended ++ s.run ∷ []))
-  ends =
-      subst (λ (b : ℕ). Each2 IsEnded (ended ++ map (seen b) (containers_of going v.lending)) (parts_of (s.ended ++ s.run ∷ []))) (sym d.rest.base)
-      (subst (λ (l : Lending). Each2 IsEnded (ended ++ map (seen u.base) (containers_of going l)) (parts_of (s.ended ++ s.run ∷ []))) (sym d.rest.services)
-      (all-ended kinds ended s.ended s.run u.base s.member.durable.log (containers_of going u.lending) up.first up.within is.ended up.inputs))
+  ends = run-ends state kinds u v going s ended d.rest.base d.rest.services up is.ended
 
   abbrev fate : Cut → Fate
   fate cut = record { cut = cut; lets = None; own = (state v.disk.disk).own_faults }
