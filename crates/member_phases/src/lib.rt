@@ -5,7 +5,6 @@ ghost use Rattle.std.specs.Prelude.{◌≡◌, ◌≤◌, ℕ, ◌-◌, ℤ, Boo
 ghost use Rattle.commit_counter.specs.declared.role.Role.{Role};
 ghost use Rattle.consensus_agent.specs.Consumed.{HaveRising, outboxes};
 ghost use Rattle.entry_log.specs.Log.{Log};
-ghost use Rattle.member_disk.specs.CutWell.{snapshots_of as snapshots_kept};
 ghost use Rattle.module_state.specs.Entries.{IsWellFormedOn, events_in};
 ghost use Rattle.module_state.specs.Places.{log_of};
 ghost use Rattle.module_state.specs.Services.{module_of};
@@ -13,7 +12,7 @@ ghost use Rattle.owed_egress.specs.Taken.{module_over, outboxes_in, sent_over};
 ghost use Rattle.run_orders.specs.Stands.{AreRecords, EndedSeen, HaveInputs, IsRecord, IsSeat, IsUp, RunSeen, Stands, UpSeen, more_sent, term_led};
 ghost use Rattle.service_api.specs.declared.shipped.Kind.{Kind};
 ghost use Rattle.service_container.specs.Held.{Held};
-ghost use Rattle.service_phases.specs.Pairs.{Each, Each2};
+ghost use Rattle.service_phases.specs.Pairs.{Each2};
 ghost use Rattle.service_runs.specs.Hosts.{Output, due_in, sent_in};
 ghost use Rattle.one_log.specs.Ruled.{rules_of};
 ghost use Rattle.run_world.specs.Lawful.{Lawful};
@@ -30,7 +29,7 @@ ghost use Rattle.member_phases.specs.Calls.{IsBetween, PhaseDone, commit_of};
 ghost use Rattle.member_phases.specs.Grown.{GrewTo};
 ghost use Rattle.member_phases.specs.Phases.{IsPhase, phase_seen};
 ghost use Rattle.member_phases.specs.Seats.{all_fed, with_seat};
-ghost use Rattle.member_phases.specs.Snapshots.{HasBase, snap_in, snapshot_as};
+ghost use Rattle.member_phases.specs.Snapshots.{snap_in, snapshot_as};
 
 use cl_base::Disk;
 
@@ -66,15 +65,11 @@ pub fn snapshots_are_what_is_due()
         → map snapshot_as (snapshots_of ds (actions_over (outboxes ds) (shape_of log) applied (module_of kinds (events_in (take applied log))) (take (commit - applied) (events_in (drop applied log))))) ≡ map snap_in (due_in (rules_of kinds) log applied commit) }
 {}
 
-/// A phase of a member is a phase in the world: its member stands to its seat after it, and what it sends is what is sent there. So it is where nothing is due, where no snapshot is, and where snapshots are, on a disk whose snapshot entries say where their terms begin in the log.
+/// A phase of a member is a phase in the world: its member stands to its seat after it, with the snapshots that were due on its disk, and what it sends is what is sent there; and so it is where nothing is due.
 pub fn a_phase_is_acts<D: Disk>()
-    ensures plain { (n : ℕ) (kinds : List Kind) (w : RunWorld) (m : ℕ) (u v : UpSeen D) (sent : List Sent) → n ≤ 5 → length kinds ≤ 3 → Lawful n kinds w → IsUp D.state kinds u false (seat w m) → PhaseDone D.state D.tells D.is_honest u v sent
-        → due_in (rules_of kinds) (seat w m).member.durable.log (seat w m).applied (seat w m).member.values.rest.commit ≡ [] → IsPhase D.state kinds m u v sent w }
     ensures still { (n : ℕ) (kinds : List Kind) (w : RunWorld) (m : ℕ) (u : UpSeen D) → n ≤ 5 → length kinds ≤ 3 → Lawful n kinds w → IsUp D.state kinds u false (seat w m) → IsBetween u → commit_of u ≤ u.module_held.consumed → IsPhase D.state kinds m u u [] w }
-    ensures written { (n : ℕ) (kinds : List Kind) (w : RunWorld) (m : ℕ) (u v : UpSeen D) (sent : List Sent) → n ≤ 5 → length kinds ≤ 3 → Lawful n kinds w → IsTrue (D.is_honest u.disk.disk) → Each (HasBase (seat w m).member.durable.log) (snapshots_kept u.disk.kept.entries)
-        → IsUp D.state kinds u false (seat w m) → PhaseDone D.state D.tells D.is_honest u v sent → IsPhase D.state kinds m u v sent w }
-    ensures bases { (n : ℕ) (kinds : List Kind) (w : RunWorld) (m : ℕ) (u v : UpSeen D) (sent : List Sent) → n ≤ 5 → length kinds ≤ 3 → Lawful n kinds w → IsTrue (D.is_honest u.disk.disk) → Each (HasBase (seat w m).member.durable.log) (snapshots_kept u.disk.kept.entries)
-        → IsUp D.state kinds u false (seat w m) → PhaseDone D.state D.tells D.is_honest u v sent → Each (HasBase (seat w m).member.durable.log) (snapshots_kept v.disk.kept.entries) }
+    ensures written { (n : ℕ) (kinds : List Kind) (w : RunWorld) (m : ℕ) (u v : UpSeen D) (sent : List Sent) → n ≤ 5 → length kinds ≤ 3 → Lawful n kinds w → IsTrue (D.is_honest u.disk.disk) → IsUp D.state kinds u false (seat w m)
+        → PhaseDone D.state D.tells D.is_honest u v sent → IsPhase D.state kinds m u v sent w }
 {}
 
 /// What a driver has stands to the world still once a member's phase is over on both sides and its records are sent.

@@ -32,7 +32,7 @@ use Rattle.sbe_events.specs.declared.event.Event.{Event}
 use Rattle.consensus_core.specs.Member.{Member}
 use Rattle.consensus_core.specs.Reign.{term_event}
 use Rattle.world.specs.World.{World, member, term_bytes, term_entry}
-use Rattle.one_log.specs.Led.{led, turns}
+use Rattle.one_log.specs.Led.{Led, led, turns}
 use Rattle.one_log.specs.Opened.{OpensTerms}
 use Rattle.one_log.specs.Ruled.{rules_of}
 use Rattle.one_log.proofs.Opened.{opens-terms}
@@ -97,6 +97,10 @@ split (y ∷ log) zero x at = (λ i. entry-is y x at i ∷ log)
     entry-is a b e = cc
 split (y ∷ log) (suc k) x at = ap (λ (l : Log). y ∷ l) (split log k x at)
 
+each-has : {X : Type 0} (P : X → Type 0) (xs : List X) → ((x : X) → Contains xs x → P x) → Each P xs
+each-has P [] all = tt
+each-has P (x ∷ xs) all = (all x (0, omega arith, refl), each-has P xs (λ y has. all y (suc has.0, (let a = has.1 in omega (arith, a)), has.2)))
+
 module _ (w : World) (log : Log) (opens : OpensTerms w log) (events : Each IsEventEntry log) where
   front-of : (k : ℕ) (x : Entry) → slice_get log k ≡ Some x → IsPrefixOf (take k log ++ x ∷ []) log
   front-of k x at = (drop (suc k) log, append_assoc (take k log) (x ∷ []) (drop (suc k) log) ∙ sym (split log k x at))
@@ -124,22 +128,31 @@ module _ (w : World) (log : Log) (opens : OpensTerms w log) (events : Each IsEve
       clash : {b : Bool} → b ≡ true → b ≡ false → ⊥
       clash same other = cc
 
--- ---- of each snapshot of a member
+-- ---- of a member of a lawful world
 
-each-has : {X : Type 0} (P : X → Type 0) (xs : List X) → ((x : X) → Contains xs x → P x) → Each P xs
-each-has P [] all = tt
-each-has P (x ∷ xs) all = (all x (0, omega arith, refl), each-has P xs (λ y has. all y (suc has.0, (let a = has.1 in omega (arith, a)), has.2)))
+module _ (n : ℕ) (kinds : List Kind) (w : RunWorld) (m : ℕ) (five : n ≤ 5) (three : length kinds ≤ 3) (lawful : Lawful n kinds w) where
+  abbrev d : Led
+  d = turns kinds (rules_of kinds) (led n) lawful.taken
 
-pub snapshots-begin : (n : ℕ) (kinds : List Kind) (w : RunWorld) (m : ℕ) → n ≤ 5 → length kinds ≤ 3 → Lawful n kinds w → Each (λ (s : SnapshotEntry). Begins s.term (seat w m).member.durable.log) (seat w m).member.durable.snapshots
-snapshots-begin n kinds w m five three lawful =
-    let r = rules_of kinds in
-    let d = turns kinds r (led n) lawful.taken in
-    let v = d.hosted.world in
-    let st = stays n kinds r lawful.taken five three in
-    let log = (member v m).durable.log in
-    let formed = ((logs-formed n kinds r d st).members m).formed in
-    let opens : OpensTerms v log = opens-terms n v log st.held.fits st.opened (st.held.fits.grounded.anchored m) in
-    let events : Each IsEventEntry log = subst (Each IsEventEntry) (sym formed.are) (all-events (events_in log) formed.spellable) in
-    subst (λ (x : Member). Each (λ (s : SnapshotEntry). Begins s.term x.durable.log) x.durable.snapshots) (member-shown d.hosted w m lawful.shows)
-    (each-has (λ (s : SnapshotEntry). Begins s.term log) (member v m).durable.snapshots
-    (λ s has. let z = st.held.snaps m s has in subst (λ (t : ℤ). Begins t log) (sym (ap (λ (q : SnapshotEntry). q.term) z.6)) (begun v log opens events z.0 z.1 z.3)))
+  abbrev BegunIn : Log → Type 0
+  BegunIn log = (k : ℕ) (x : Entry) → slice_get log k ≡ Some x → Begins x.term log
+
+  there-begin : BegunIn (member d.hosted.world m).durable.log
+  there-begin =
+      let st = stays n kinds (rules_of kinds) lawful.taken five three in
+      let log = (member d.hosted.world m).durable.log in
+      let formed = ((logs-formed n kinds (rules_of kinds) d st).members m).formed in
+      begun d.hosted.world log (opens-terms n d.hosted.world log st.held.fits st.opened (st.held.fits.grounded.anchored m)) (subst (Each IsEventEntry) (sym formed.are) (all-events (events_in log) formed.spellable))
+
+  -- the term of each entry of its log
+  pub entries-begin : BegunIn (seat w m).member.durable.log
+  entries-begin = subst (λ (x : Member). BegunIn x.durable.log) (member-shown d.hosted w m lawful.shows) there-begin
+
+  -- and that of each of its snapshots
+  pub snapshots-begin : Each (λ (s : SnapshotEntry). Begins s.term (seat w m).member.durable.log) (seat w m).member.durable.snapshots
+  snapshots-begin =
+      let st = stays n kinds (rules_of kinds) lawful.taken five three in
+      let log = (member d.hosted.world m).durable.log in
+      subst (λ (x : Member). Each (λ (s : SnapshotEntry). Begins s.term x.durable.log) x.durable.snapshots) (member-shown d.hosted w m lawful.shows)
+      (each-has (λ (s : SnapshotEntry). Begins s.term log) (member d.hosted.world m).durable.snapshots
+      (λ s has. let z = st.held.snaps m s has in subst (λ (t : ℤ). Begins t log) (sym (ap (λ (q : SnapshotEntry). q.term) z.6)) (there-begin z.0 z.1 z.3)))
