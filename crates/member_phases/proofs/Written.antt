@@ -43,7 +43,7 @@ use Rattle.member_phases.proofs.Puts.{NamedIn, any-there, counts, named-head, no
 same-nat : (a b : ℕ) → a ≡ b → nat_eq a b ≡ true
 same-nat a b e = grind (arith, nat_tests, e)
 
-nat-same : (a b : ℕ) → nat_eq a b ≡ true → a ≡ b
+pub nat-same : (a b : ℕ) → nat_eq a b ≡ true → a ≡ b
 nat-same a b e = grind (arith, nat_tests, e)
 
 same-int : (a b : ℤ) → a ≡ b → same_term a b ≡ true
@@ -65,7 +65,7 @@ either-false false b e = (refl, e)
 
 module _ (kinds : List Kind) (log : Log) (few : length kinds ≤ 3) (formed : IsWellFormedOn kinds log) where
   -- the others' files stay
-  others-stored : (f g : ℕ → FileState) (e : SnapshotEntry) → NamedIn kinds log e → ((n : ℕ) → 258 ≤ n → (n ≡ 258 + e.recording → ⊥) → g n ≡ f n) → (es : List RecEntry) (ts : List SnapshotEntry)
+  pub others-stored : (f g : ℕ → FileState) (e : SnapshotEntry) → NamedIn kinds log e → ((n : ℕ) → 258 ≤ n → (n ≡ 258 + e.recording → ⊥) → g n ≡ f n) → (es : List RecEntry) (ts : List SnapshotEntry)
       → Each2 (IsStored f) es ts → Each (NamedIn kinds log) ts → list_any (same_entry e) ts ≡ false → Each2 (IsStored g) es ts
   others-stored f g e name same [] [] each named none = each
   others-stored f g e name same [] (t ∷ ts) each named none = absurd each
@@ -80,7 +80,7 @@ module _ (kinds : List Kind) (log : Log) (few : length kinds ≤ 3) (formed : Is
         others-stored f g e name same es ts each.1 named.1 no_one.1,
       )
 
-  each-on : {X : Type 0} (P : X → Type 0) (xs : List X) (x : X) → Each P xs → P x → Each P (xs ++ x ∷ [])
+  pub each-on : {X : Type 0} (P : X → Type 0) (xs : List X) (x : X) → Each P xs → P x → Each P (xs ++ x ∷ [])
   each-on P [] x each is = (is, tt)
   each-on P (y ∷ xs) x each is = (each.0, each-on P xs x each.1 is)
 
@@ -95,6 +95,13 @@ module _ (kinds : List Kind) (log : Log) (few : length kinds ≤ 3) (formed : Is
       pub bases : Each (HasBase log) (snapshots_of h.kept.entries)
       pub named : Each (NamedIn kinds log) d.snapshots
       pub begin : (i : ℕ) (x : Entry) → slice_get log i ≡ Some x → Begins x.term log
+
+    -- its entry, as it is put, says where its term begins
+    pub entry-base : (s : Snapshot) (a : DiskHeld D) (d : Durable) (name : NamedIn kinds log (snapshot_as s)) (k : Keeps a d) → HasBase log (entry_for a.kept s.head)
+    entry-base s a d name k = record {
+      begins = subst (λ (t : ℤ). Begins t log) (sym (ap (λ (q : SnapshotEntry). q.term) name.6)) (k.begin name.0 name.1 name.3);
+      base = ap (λ (l : Log). pos (base_of s.head.term (new_terms 0 l))) k.same_log;
+    }
 
     module _ (s : Snapshot) (a b : DiskHeld D) (d : Durable) (name : NamedIn kinds log (snapshot_as s)) (k : Keeps a d) (w : IsWritten state is_told is_honest s a b) where
       abbrev e : SnapshotEntry
@@ -165,10 +172,6 @@ module _ (kinds : List Kind) (log : Log) (few : length kinds ≤ 3) (formed : Is
           let old = others-stored (state a.disk).files fb e name (w.others k.right) (snapshots_of a.kept.entries) d.snapshots k.durable.snapshots k.named none in
           let here : IsStored fb entry e = record { recording = refl; service = refl; term = refl; position = refl; stamp = refl; pieces = w.stored k.told new } in
           let all : Each2 (IsStored fb) (snapshots_of a.kept.entries ++ entry ∷ []) (d.snapshots ++ e ∷ []) = each-append (IsStored fb) (snapshots_of a.kept.entries) (entry ∷ []) d.snapshots (e ∷ []) old (here, tt) in
-          let base : HasBase log entry = record {
-            begins = subst (λ (t : ℤ). Begins t log) (sym (ap (λ (q : SnapshotEntry). q.term) name.6)) (k.begin name.0 name.1 name.3);
-            base = ap (λ (l : Log). pos (base_of s.head.term (new_terms 0 l))) k.same_log;
-          } in
           record {
             right = w.right k.right;
             told = told-on;
@@ -177,7 +180,7 @@ module _ (kinds : List Kind) (log : Log) (few : length kinds ≤ 3) (formed : Is
             same_log = ap (λ (z : Kept). z.log) kept ∙ k.same_log;
             durable = subst (λ (z : Kept). IsStateOf z fb (record d { snapshots = d.snapshots ++ e ∷ [] })) (sym kept)
                 (record { candidate = k.durable.candidate; voted = k.durable.voted; log = k.durable.log; snapshots = subst (λ (l : List RecEntry). Each2 (IsStored fb) l (d.snapshots ++ e ∷ [])) (sym more) all });
-            bases = subst (λ (z : Kept). Each (HasBase log) (snapshots_of z.entries)) (sym kept) (subst (Each (HasBase log)) (sym more) (each-on (HasBase log) (snapshots_of a.kept.entries) entry k.bases base));
+            bases = subst (λ (z : Kept). Each (HasBase log) (snapshots_of z.entries)) (sym kept) (subst (Each (HasBase log)) (sym more) (each-on (HasBase log) (snapshots_of a.kept.entries) entry k.bases (entry-base s a d name k)));
             named = each-on (NamedIn kinds log) d.snapshots e k.named name;
             begin = k.begin;
           }
