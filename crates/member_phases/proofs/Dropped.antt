@@ -29,7 +29,8 @@ use Rattle.member_phases.specs.Calls.{commit_of, snapshots_due, stage_of}
 use Rattle.member_phases.specs.Cuts.{HasLastFile}
 use Rattle.member_phases.specs.Frees.{DropsSo, FreeCut, FreeDropped, PhaseRuns, StopsSo, with_consumed}
 use Rattle.member_phases.specs.Seats.{all_fed, with_seat}
-use Rattle.member_phases.specs.Snapshots.{HasBase, all_put}
+use Rattle.run_orders.specs.Kept.{HasBase}
+use Rattle.member_phases.specs.Snapshots.{all_put}
 use Rattle.member_phases.proofs.Acts.{stopped-at, there-up}
 use Rattle.member_phases.proofs.Ended.{entries-at, same-commit, within}
 use Rattle.member_phases.proofs.Fed.{some-taken}
@@ -123,7 +124,7 @@ module _ {D : Type 0} (state : D → DiskState) (kinds : List Kind) (n : ℕ) (w
       let home : IsUp state kinds u true s = is.home in
       let stands : Stands u.disk.kept (λ f. ((state disk).files f).reads) = subst (λ (h : DiskHeld D). Stands h.kept (λ f. ((state disk).files f).reads)) same (each-now (λ f. ((state disk).files f).reads) (left-image choice old (state disk) crash sound)) in
       let left : IsLeft (length kinds) s.member.durable (state disk).files =
-      durable-left choice old (state disk) crash sound changes.Nothing u.disk.kept (length kinds) (state u.disk.disk).files s.member.durable (λ g high. ap (λ (h : DiskHeld D). (state h.disk).files g) same) home.mountable home.mountable.held home.durable
+      durable-left choice old (state disk) crash sound changes.Nothing u.disk.kept (length kinds) (state u.disk.disk).files s.member.durable (λ g high. ap (λ (h : DiskHeld D). (state h.disk).files g) same) home.mountable home.mountable.held home.mountable.bases home.durable
       (record { node = stands.node; entries = u.disk.kept.entries; holds = stands.entries; snapshots = refl; terms = home.mountable.terms; log = stands.log }) in
       subst (λ (k : ℕ). IsSeat state kinds (stopped_seat ended v false disk) (rested k (with_consumed p.inputs s))) (ap (λ (h : DiskHeld D). (state h.disk).own_faults) same ∙ sym is.faults.own)
       (rested-stands state kinds choice v false ended disk crash s.member.durable (with_consumed p.inputs s) left p.ended is.ended)

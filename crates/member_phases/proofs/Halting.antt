@@ -23,10 +23,12 @@ use Rattle.member_phases.specs.Calls.{commit_of, snapshots_due}
 use Rattle.member_phases.specs.Cuts.{HasLastFile}
 use Rattle.member_phases.specs.Grown.{GrewTo}
 use Rattle.member_phases.specs.Seats.{all_fed}
-use Rattle.member_phases.specs.Snapshots.{HasBase, all_put}
+use Rattle.run_orders.specs.Kept.{HasBase}
+use Rattle.member_phases.specs.Snapshots.{all_put}
 use Rattle.member_phases.proofs.Crashed.{IsCutAt, between, cut-at}
 use Rattle.member_phases.proofs.Ended.{all-inputs, formed, snapshots-are}
 use Rattle.member_phases.proofs.Rested.{stopped-stands}
+use Rattle.run_orders.proofs.Begun.{entries-begin}
 use Rattle.member_phases.proofs.Written.{Keeps, dues-named, snaps-named}
 
 -- a disk stays honest
@@ -55,6 +57,7 @@ up-keeps {D} state is_told is_honest kinds n w m five three lawful u going up ho
   durable = up.durable;
   bases = bases;
   named = snaps-named n kinds w m lawful;
+  begin = entries-begin n kinds w m five three lawful;
 }
 
 module _ {D : Type 0} (state : D → DiskState) (is_told is_honest : D → Bool) (kinds : List Kind) (n : ℕ) (w : RunWorld) (m : ℕ) (five : n ≤ 5) (three : length kinds ≤ 3) (lawful : Lawful n kinds w) (u v : UpSeen D) (going : Bool) (choice : Choice) (ended : List EndedSeen) (disk : D)

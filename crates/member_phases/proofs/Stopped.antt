@@ -21,7 +21,8 @@ use Rattle.member_phases.specs.Calls.{PhaseCut, commit_of, snapshots_due}
 use Rattle.member_phases.specs.Cuts.{HasLastFile, IsCutPhase}
 use Rattle.member_phases.specs.Grown.{GrewTo}
 use Rattle.member_phases.specs.Seats.{all_fed}
-use Rattle.member_phases.specs.Snapshots.{HasBase, all_put}
+use Rattle.run_orders.specs.Kept.{HasBase}
+use Rattle.member_phases.specs.Snapshots.{all_put}
 use Rattle.member_phases.proofs.Acts.{stopped-at}
 use Rattle.member_phases.proofs.Ended.{commit-within, entries-at, same-commit, within}
 use Rattle.member_phases.proofs.Ending.{feeds, taken}
