@@ -18,7 +18,7 @@ use Rattle.run_world.specs.RunWorld.{hears}
 use Rattle.run_orders.specs.Kept.{HasFaults, IsMountable, IsStateOf}
 use Rattle.run_orders.specs.Stands.{EndedSeen, HasModule, HaveInputs, IsPhase, IsSeat, IsUp, UpSeen, containers_of}
 use Rattle.member_asks.specs.Clauses.{Stays}
-use Rattle.member_asks.specs.Made.{running}
+use Rattle.member_rows.specs.Places.{running_seat}
 
 longer-log : (a : Log) (x : Entry) → a ≡ a ++ x ∷ [] → ⊥
 longer-log a x same = let n = length-append a (x ∷ []) in let e = ap length same in omega (arith, n, e)
@@ -78,7 +78,7 @@ module _ {D : Type 0} (state : D → DiskState) (kinds : List Kind) where
   }
 
   still-seat : (u v : UpSeen D) (going : Bool) (choice : Choice) (ended : List EndedSeen) (s : Seat) (alive : List (ℤ × ℕ)) → Stays u v → v.disk ≡ u.disk → HasModule kinds v.module_held (record s { alive = alive })
-      → IsSeat state kinds (running u going choice ended) s → IsSeat state kinds (running v going choice ended) (record s { alive = alive })
+      → IsSeat state kinds (running_seat choice ended u going) s → IsSeat state kinds (running_seat choice ended v going) (record s { alive = alive })
   still-seat u v going choice ended s alive stays disk has is = record {
     home = still-up u v going s alive stays disk has is.home;
     faults = subst (λ (d : DiskHeld D). HasFaults (state d.disk) choice s.faults) (sym disk) is.faults;
@@ -87,11 +87,11 @@ module _ {D : Type 0} (state : D → DiskState) (kinds : List Kind) where
 
   -- it refused, and nothing changed
   pub refused : (u v : UpSeen D) (going : Bool) (choice : Choice) (ended : List EndedSeen) (s : Seat) → Stays u v → v.disk ≡ u.disk → IsCalm u.module_held v.module_held
-      → IsSeat state kinds (running u going choice ended) s → IsSeat state kinds (running v going choice ended) s
+      → IsSeat state kinds (running_seat choice ended u going) s → IsSeat state kinds (running_seat choice ended v going) s
   refused u v going choice ended s stays disk calm is = still-seat u v going choice ended s s.alive stays disk (calm-module kinds u.module_held v.module_held s calm is.home.has_module) is
 
   -- a session was heard of
   pub heard-seat : (u v : UpSeen D) (going : Bool) (choice : Choice) (ended : List EndedSeen) (s : Seat) (session : ℤ) (now : ℕ) → Stays u v → v.disk ≡ u.disk → IsHeard session now u.module_held v.module_held
-      → IsSeat state kinds (running u going choice ended) s → IsSeat state kinds (running v going choice ended) (hears session now s)
+      → IsSeat state kinds (running_seat choice ended u going) s → IsSeat state kinds (running_seat choice ended v going) (hears session now s)
   heard-seat u v going choice ended s session now stays disk is' is =
       still-seat u v going choice ended s (heard session now s.alive) stays disk (heard-module kinds session now u.module_held v.module_held s is' is.home.has_module) is

@@ -7,7 +7,7 @@ use Rattle.std.proofs.lemmas.List.Elements.{All-append, All-cons, All-nil}
 use Rattle.cl_base.specs.Disk.{FileState, DiskState}
 use Rattle.cl_base.specs.declared.entry.Entry.{Entry}
 use Rattle.entry_log.specs.Log.{Log, RisesFrom, last_from, place}
-use Rattle.entry_log.specs.Durable.{Durable, SnapshotEntry}
+use Rattle.entry_log.specs.Durable.{Durable}
 use Rattle.entry_log.specs.Shape.{shape_of, last_term_of, last_term_from-shape_of}
 use Rattle.recording_log.specs.declared.entry.RecEntry.{RecEntry}
 use Rattle.sbe_events.specs.Laws.{encoded}
@@ -17,7 +17,7 @@ use Rattle.service_api.specs.declared.shipped.Kind.{Kind}
 use Rattle.service_api.specs.Service.{state_of}
 use Rattle.service_container.specs.Held.{Held as ContainerHeld}
 use Rattle.service_container.specs.Records.{records_from}
-use Rattle.service_phases.specs.Pairs.{Each2}
+use Rattle.service_phases.specs.Pairs.{Each, Each2}
 use Rattle.log_segment.specs.Held.{IsEventEntry, IsHeld}
 use Rattle.member_disk.specs.CutWell.{snapshots_of}
 use Rattle.member_disk.specs.Kept.{Kept, EachStands}
@@ -29,7 +29,9 @@ use Rattle.consensus_agent.specs.Accepted.{HasMore}
 use Rattle.consensus_agent.specs.Disks.{KeepsSets}
 use Rattle.consensus_agent.specs.Rows.{IsKept}
 use Rattle.run_world.specs.Seat.{Seat, Fate}
-use Rattle.run_orders.specs.Kept.{IsStateOf, IsStored}
+use Rattle.run_orders.specs.Kept.{HasBase, IsStateOf, IsStored}
+use Rattle.run_orders.proofs.Bases.{all-more}
+use Rattle.member_rows.proofs.Images.{all-stored-on}
 use Rattle.run_orders.specs.Stands.{HasInput, HasModule, HaveInputs, IsUp, UpSeen, containers_of}
 use Rattle.member_asks.specs.Clauses.{Stays}
 use Rattle.member_asks.proofs.Calm.{inputs-stay, phase-stays}
@@ -101,28 +103,12 @@ inputs-grown (kind ∷ kinds) count log more number (c ∷ cs) (xs ∷ xss) low 
 
 -- ---- the disk
 
-stored-on : (old new : ℕ → FileState) (e : RecEntry) (s : SnapshotEntry) → ((g : ℕ) → 258 ≤ g → new g ≡ old g) → IsStored old e s → IsStored new e s
-stored-on old new e s same is = record {
-  recording = is.recording;
-  service = is.service;
-  term = is.term;
-  position = is.position;
-  stamp = is.stamp;
-  pieces = same (258 + s.recording) (omega arith) ∙ is.pieces;
-}
-
-pub all-stored-on : (old new : ℕ → FileState) (es : List RecEntry) (ss : List SnapshotEntry) → ((g : ℕ) → 258 ≤ g → new g ≡ old g) → Each2 (IsStored old) es ss → Each2 (IsStored new) es ss
-all-stored-on old new [] [] same each = each
-all-stored-on old new [] (s ∷ ss) same each = absurd each
-all-stored-on old new (e ∷ es) [] same each = absurd each
-all-stored-on old new (e ∷ es) (s ∷ ss) same each = (stored-on old new e s same each.0, all-stored-on old new es ss same each.1)
-
 pub state-grown : (a b : Kept) (old new : ℕ → FileState) (d : Durable) (e : Event) → IsKept a.node (a.log ++ entry_of e ∷ []) b → KeepsSets a b → ((g : ℕ) → 258 ≤ g → new g ≡ old g) → IsStateOf a old d → IsStateOf b new (longer_by e d)
 state-grown a b old new d e kept sets same is = record {
   candidate = is.candidate ∙ ap (λ n. n.term) (sym kept.node);
   voted = is.voted ∙ ap (λ n. n.voted) (sym kept.node);
   log = ap (λ (l : Log). l ++ entry_of e ∷ []) is.log ∙ sym kept.log;
-  snapshots = subst (λ (es : List RecEntry). Each2 (IsStored new) es d.snapshots) (sym sets.snapshots) (all-stored-on old new (snapshots_of a.entries) d.snapshots same is.snapshots);
+  snapshots = subst (λ (es : List RecEntry). Each2 (IsStored new) es d.snapshots) (sym sets.snapshots) (all-stored-on old new same (snapshots_of a.entries) d.snapshots is.snapshots);
 }
 
 module _ {D : Type 0} (state : D → DiskState) (kinds : List Kind) where
@@ -131,11 +117,14 @@ module _ {D : Type 0} (state : D → DiskState) (kinds : List Kind) where
       → HasModule kinds v.module_held (grown e f s) → IsUp state kinds u going s → IsUp state kinds v going (grown e f s)
   up-grown u v going s e f stays whole kept sets held each same has is =
       let log = s.member.durable.log in
+      let more : Log = u.disk.kept.log ++ entry_of e ∷ [] in
+      let bases : Each (HasBase v.disk.kept.log) (snapshots_of v.disk.kept.entries) =
+      subst (λ (l : Log). Each (HasBase l) (snapshots_of v.disk.kept.entries)) (sym kept.log) (subst (Each (HasBase more)) (sym sets.snapshots) (all-more u.disk.kept.log (entry_of e ∷ []) (snapshots_of u.disk.kept.entries) is.mountable.bases)) in
       record {
         up = refl;
         values = stays.values ∙ is.values;
         whole = whole;
-        mountable = record { count = sets.services ∙ is.mountable.count; held = subst IsHeld (sym kept.log) held; terms = sets.terms is.mountable.terms };
+        mountable = record { count = sets.services ∙ is.mountable.count; held = subst IsHeld (sym kept.log) held; terms = sets.terms is.mountable.terms; bases = bases };
         each = each;
         durable = state-grown u.disk.kept v.disk.kept (state u.disk.disk).files (state v.disk.disk).files s.member.durable e kept sets same is.durable;
         has_module = has;

@@ -3,7 +3,6 @@ pub mod Asking
 pub mod Rowed
 pub mod Read
 pub mod Grown
-pub mod Fallen
 pub mod Taken
 pub mod Answered
 pub mod Direct

@@ -18,7 +18,7 @@ use Rattle.run_world.specs.Lawful.{Lawful}
 use Rattle.run_world.specs.Seat.{Seat, Fate, Phase, acted, first_seat, lets_calls}
 use Rattle.run_world.specs.RunWorld.{RunWorld, Asks, committed, does, hears, is_free, is_up, may_ask, put, row_at, seat}
 use Rattle.run_orders.specs.Stands.{IsPhase, IsSeat, IsUp, SeatSeen, UpSeen}
-use Rattle.member_asks.specs.Clauses.{Sound}
+use Rattle.member_rows.specs.Calls.{GoesOn}
 use Rattle.member_asks.specs.Made.{Falls, Makes, MakesOne}
 use Rattle.member_asks.proofs.Printing.{is-printed, prints-none}
 use Rattle.member_asks.proofs.Rowed.{commits, sends-none}
@@ -49,7 +49,7 @@ module _ {D : Type 0} (state : D → DiskState) (n : ℕ) (kinds : List Kind) (w
   printed : longer w.printed (committed (seat w m).member) ≡ w.printed
   printed = is-printed n kinds w m five three lawful
 
-  within : Sound u → (seat w m).member.values.rest.commit ≤ length (seat w m).member.durable.log
+  within : GoesOn u → (seat w m).member.values.rest.commit ≤ length (seat w m).member.durable.log
   within sound =
       let a = ap (λ (v : Values). v.rest.commit) is.values in
       let b = sound.standing.commit in
@@ -58,7 +58,7 @@ module _ {D : Type 0} (state : D → DiskState) (n : ℕ) (kinds : List Kind) (w
       omega (arith, a, b, c, d)
 
   -- an event's row, whatever the disk did
-  pub asks-one : (e : Event) (fits : IsSpellable e) (f : Fate) (y : SeatSeen D) → Sound u → may_ask kinds (seat w m) w.now e ≡ true → IsSeat state kinds y (acted (row_of_client (seat w m).member e) w.now f (seat w m)) → MakesOne state kinds m w y
+  pub asks-one : (e : Event) (fits : IsSpellable e) (f : Fate) (y : SeatSeen D) → GoesOn u → may_ask kinds (seat w m) w.now e ≡ true → IsSeat state kinds y (acted (row_of_client (seat w m).member e) w.now f (seat w m)) → MakesOne state kinds m w y
   asks-one e fits f y sound may here =
       let s = seat w m in
       let row = row_of_client s.member e in
@@ -79,7 +79,7 @@ module _ {D : Type 0} (state : D → DiskState) (n : ℕ) (kinds : List Kind) (w
       prints (inr none) = ap (longer w.printed) none ∙ prints-none w.printed
 
   -- what was decided on
-  pub makes-one : (decision : Decided) (y : SeatSeen D) → Sound u → Makes state kinds decision w.now (seat w m) y → MakesOne state kinds m w y
+  pub makes-one : (decision : Decided) (y : SeatSeen D) → GoesOn u → Makes state kinds decision w.now (seat w m) y → MakesOne state kinds m w y
   makes-one (decisions.Refuse refusal) y sound made = record { becomes = seat w m; asked = inl (same-put w m printed); seat = made; prints = printed }
   makes-one (decisions.Alive session) y sound made =
       let t = hears session w.now (seat w m) in
@@ -91,5 +91,5 @@ module _ {D : Type 0} (state : D → DiskState) (n : ℕ) (kinds : List Kind) (w
       }
   makes-one (decisions.Append e) y sound made = asks-one e made.fits made.fate y sound made.may made.seat
 
-  pub falls-one : (e : Event) (y : SeatSeen D) → Sound u → Falls state kinds w.now (seat w m) e y → MakesOne state kinds m w y
+  pub falls-one : (e : Event) (y : SeatSeen D) → GoesOn u → Falls state kinds w.now (seat w m) e y → MakesOne state kinds m w y
   falls-one e y sound made = asks-one e made.fits made.fate y sound made.may made.seat

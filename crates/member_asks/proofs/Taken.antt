@@ -14,36 +14,39 @@ use Rattle.entry_log.specs.Shape.{entry_shape}
 use Rattle.sbe_events.specs.Spelling.{HasSpelling, content_of}
 use Rattle.sbe_events.specs.declared.event.Event.{Event}
 use Rattle.service_api.specs.declared.shipped.Kind.{Kind}
-use Rattle.service_phases.specs.Pairs.{Each2}
-use Rattle.service_phases.specs.Phases.{Lending}
+use Rattle.service_phases.specs.Pairs.{Each}
 use Rattle.ingress.specs.declared.decision.Decided.{Decided}
 use Rattle.ingress.specs.declared.decision.Decided.TheVariants as decisions
 use Rattle.ingress.specs.declared.outcome.Outcome.{Outcome}
 use Rattle.ingress.specs.declared.view.View.{View}
 use Rattle.ingress.specs.Decisions.{Admits, IsAdmitted}
 use Rattle.log_segment.specs.Held.{IsHeld}
-use Rattle.member_disk.specs.Kept.{Kept}
-use Rattle.member_disk.specs.CutWell.{IsDurable, IsDurableOne}
+use Rattle.member_disk.specs.CutWell.{IsDurable, IsDurableOne, snapshots_of}
 use Rattle.member_module.specs.Held.{at_end}
 use Rattle.module_state.specs.Entries.{IsSpellable}
 use Rattle.module_state.specs.Module.{Module}
+use Rattle.consensus_core.specs.declared.change.Change.{Change}
 use Rattle.consensus_core.specs.declared.change.Change.TheVariants as changes
 use Rattle.consensus_core.specs.declared.values.Values.{Values}
-use Rattle.consensus_core.specs.Member.{is_ready, stopped}
+use Rattle.consensus_core.specs.Member.{changed, changed_log, is_ready, stopped}
 use Rattle.consensus_core.specs.Reign.{entry_of}
 use Rattle.consensus_agent.specs.Accepted.{HasMore, IsAppended, IsDone, IsView, Leaves, OnNothingNew}
 use Rattle.consensus_agent.specs.Disks.{IsRight, Went, changed_kept}
 use Rattle.run_world.specs.Seat.{Seat, halted}
 use Rattle.run_world.specs.RunWorld.{may_ask, view_at}
-use Rattle.run_orders.specs.Kept.{IsStateOf}
-use Rattle.run_orders.specs.Stands.{EndedSeen, SeatSeen, IsEnded, IsSeat, IsUp, UpSeen, containers_of, parts_of}
+use Rattle.run_orders.specs.Kept.{HasBase}
+use Rattle.run_orders.proofs.Bases.{all-more}
+use Rattle.run_orders.specs.Stands.{EndedSeen, SeatSeen, IsSeat, IsUp, UpSeen}
 use Rattle.run_orders.proofs.Standing.{sees-end}
 use Rattle.consensus_agent.specs.Accepted.{Adds, OnAppend}
-use Rattle.member_asks.specs.Clauses.{Sound, Stays}
-use Rattle.member_asks.specs.Made.{Accepts, Falls, Makes, ended_by, resting, running}
+use Rattle.member_rows.specs.Calls.{GoesOn}
+use Rattle.member_rows.specs.Places.{running_seat, stopped_seat}
+use Rattle.member_rows.proofs.Halts.{left-down, run-ends}
+use Rattle.member_rows.proofs.Images.{IsLeft, durable-left, left-image}
+use Rattle.member_asks.specs.Clauses.{Stays}
+use Rattle.member_asks.specs.Made.{Accepts, Falls, Makes}
 use Rattle.member_asks.proofs.Asking.{may-ask, ready, room}
 use Rattle.member_asks.proofs.Calm.{heard-seat, nothing-new, refused}
-use Rattle.member_asks.proofs.Fallen.{all-ended, down-as, faults-down, is-image, left}
 use Rattle.member_asks.proofs.Grown.{held-grown, module-grown, up-grown}
 use Rattle.member_asks.proofs.Rowed.{acted-after, acted-before, acted-whole, fate_after, fate_before, longer_by, whole_fate}
 
@@ -70,7 +73,7 @@ module _ {D : Type 0} (state : D → DiskState) (is_told is_honest : D → Bool)
     lead = ready w s.member.values s.member.durable.log (view_at kinds s) (view_at kinds s).counts.actions now e seen let-in
 
     -- the log stays one that a member can hold
-    held : Sound u → HasSpelling e → IsHeld (u.disk.kept.log ++ entry_of e ∷ [])
+    held : GoesOn u → HasSpelling e → IsHeld (u.disk.kept.log ++ entry_of e ∷ [])
     held sound spelled =
         let leads : is_ready u.core.values.election.state ≡ true = ready w u.core.values u.disk.kept.log (at_end u.module_held) (at_end u.module_held).counts.actions now e view ad in
         let last = sound.standing.leads (leads-there u.core.values.election.state leads) in
@@ -79,7 +82,7 @@ module _ {D : Type 0} (state : D → DiskState) (is_told is_honest : D → Bool)
     right : IsTrue (is_honest u.disk.disk) → IsRight state is_told is_honest u.disk
     right honest = record { honest = honest; each = is.each; terms = is.mountable.terms }
 
-    low : Sound u → s.applied ≤ length s.member.durable.log
+    low : GoesOn u → s.applied ≤ length s.member.durable.log
     low sound =
         let a = is.has_module.applied in
         let b = sound.consumed in
@@ -89,8 +92,8 @@ module _ {D : Type 0} (state : D → DiskState) (is_told is_honest : D → Bool)
         omega (arith, a, b, c, d, f)
 
     -- the event was appended
-    pub accepted : (v : UpSeen D) (choice : Choice) (ended : List EndedSeen) → IsTrue (is_honest u.disk.disk) → Stays u v → Sound u → Sound v → IsBytes (content_of e) → IsAppended (length u.disk.kept.log) e u.disk.kept v.disk.kept → HasMore e u.module_held v.module_held
-        → Adds state is_told is_honest e u.disk v.disk → IsSeat state kinds (running u going choice ended) s → Accepts state kinds now s e (running v going choice ended)
+    pub accepted : (v : UpSeen D) (choice : Choice) (ended : List EndedSeen) → IsTrue (is_honest u.disk.disk) → Stays u v → GoesOn u → GoesOn v → IsBytes (content_of e) → IsAppended (length u.disk.kept.log) e u.disk.kept v.disk.kept → HasMore e u.module_held v.module_held
+        → Adds state is_told is_honest e u.disk v.disk → IsSeat state kinds (running_seat choice ended u going) s → Accepts state kinds now s e (running_seat choice ended v going)
     accepted v choice ended honest stays sound whole fit appended more adds seat =
         let f = whole_fate (state v.disk.disk).lets (state v.disk.disk).own_faults in
         let r = right honest in
@@ -101,45 +104,45 @@ module _ {D : Type 0} (state : D → DiskState) (is_told is_honest : D → Bool)
           fits = (appended.spelled, fit);
           fate = f;
           cut = refl;
-          seat = subst (IsSeat state kinds (running v going choice ended)) (sym (acted-whole s e now (state v.disk.disk).lets (state v.disk.disk).own_faults lead))
+          seat = subst (IsSeat state kinds (running_seat choice ended v going)) (sym (acted-whole s e now (state v.disk.disk).lets (state v.disk.disk).own_faults lead))
               (record { home = home; faults = record { lets = refl; left = seat.faults.left; own = refl; alive = (adds.done.passed r seat.faults.alive).burnt }; ended = seat.ended });
         }
 
     -- the disk failed at it, and the member stopped
-    module _ (v : UpSeen D) (choice : Choice) (ended : List EndedSeen) (d : D) (files : (x : D) → IsTrue (is_honest x) → (g : ℕ) → IsSoundFile ((state x).files g)) (honest : IsTrue (is_honest u.disk.disk)) (stays : Stays u v) (sound : Sound u)
-        (fits : IsSpellable e) (went : Went state is_told is_honest (changes.Append (entry_of e ∷ [])) u.disk v.disk) (crash : CrashLeaves choice (state v.disk.disk) (state d)) (seat : IsSeat state kinds (running u going choice ended) s) where
+    module _ (v : UpSeen D) (choice : Choice) (ended : List EndedSeen) (d : D) (files : (x : D) → IsTrue (is_honest x) → (g : ℕ) → IsSoundFile ((state x).files g)) (honest : IsTrue (is_honest u.disk.disk)) (stays : Stays u v) (sound : GoesOn u)
+        (fits : IsSpellable e) (went : Went state is_told is_honest (changes.Append (entry_of e ∷ [])) u.disk v.disk) (crash : CrashLeaves choice (state v.disk.disk) (state d)) (seat : IsSeat state kinds (running_seat choice ended u going) s) where
       abbrev own : ℕ
       own = (state d).own_faults
 
       abbrev rest : SeatSeen D
-      rest = resting d (ended ++ ended_by v.base (containers_of going v.lending))
+      rest = stopped_seat ended v going d
+
+      abbrev image : ℕ → List ℕ
+      image g = ((state d).files g).reads
 
       sound-files : (g : ℕ) → IsSoundFile ((state v.disk.disk).files g)
       sound-files = files v.disk.disk (subst IsTrue (sym went.honest) honest)
 
-      -- what its services consumed is kept
-      ends : Each2 IsEnded (ended ++ ended_by v.base (containers_of going v.lending)) (parts_of (s.ended ++ s.run ∷ []))
-      ends =
-          subst (λ (l : Lending). Each2 IsEnded (ended ++ ended_by v.base (containers_of going l)) (parts_of (s.ended ++ s.run ∷ []))) (sym stays.services)
-          (subst (λ (b : ℕ). Each2 IsEnded (ended ++ ended_by b (containers_of going u.lending)) (parts_of (s.ended ++ s.run ∷ []))) (sym stays.base)
-          (all-ended kinds ended s.ended s.run u.base s.member.durable.log (containers_of going u.lending) is.first is.within seat.ended is.inputs))
-
       -- it is at rest, with this on its disk
-      rests : (k : Kept) (x : Durable) → k.services ≡ length kinds → IsHeld k.log → IsDurable k (left state kinds choice v.disk.disk d crash sound-files) → IsStateOf k (state u.disk.disk).files x → IsSeat state kinds rest (halted (stopped x) own s)
-      rests k x count held there is' = record {
-        home = down-as state kinds choice v.disk.disk d crash sound-files k (state u.disk.disk).files x own s count held there (went.files (right honest)) is';
-        faults = faults-down state kinds choice v.disk.disk d crash sound-files;
-        ended = ends;
+      rests : (x : Durable) → IsLeft (length kinds) x (state d).files → IsSeat state kinds rest (halted (stopped x) own s)
+      rests x l = record {
+        home = left-down state kinds d x own s l;
+        faults = record { lets = sym crash.lets; left = refl; own = refl; alive = crash.burnt };
+        ended = run-ends state kinds u v going s ended stays.base stays.services is seat.ended;
       }
 
+      left-by : (c : Change) → IsHeld (changed_log c u.disk.kept.log) → Each (HasBase (changed_log c u.disk.kept.log)) (snapshots_of u.disk.kept.entries) → IsDurable (changed_kept c u.disk.kept) image → IsLeft (length kinds) (changed c s.member.durable) (state d).files
+      left-by c held bases there =
+          durable-left choice (state v.disk.disk) (state d) crash sound-files c u.disk.kept (length kinds) (state u.disk.disk).files s.member.durable (went.files (right honest)) is.mountable held bases is.durable there
+
       -- before its change, or after it
-      one : IsDurableOne u.disk.kept (changed_kept (changes.Append (entry_of e ∷ [])) u.disk.kept) (left state kinds choice v.disk.disk d crash sound-files) → Falls state kinds now s e rest
+      one : IsDurableOne u.disk.kept (changed_kept (changes.Append (entry_of e ∷ [])) u.disk.kept) image → Falls state kinds now s e rest
       one (inl there) = record {
         may = may;
         fits = fits;
         fate = fate_before None own;
         cut = inl refl;
-        seat = subst (IsSeat state kinds rest) (sym (acted-before s e now None own lead)) (rests u.disk.kept s.member.durable is.mountable.count is.mountable.held there is.durable);
+        seat = subst (IsSeat state kinds rest) (sym (acted-before s e now None own lead)) (rests s.member.durable (left-by changes.Nothing is.mountable.held is.mountable.bases there));
       }
       one (inr there) = record {
         may = may;
@@ -147,18 +150,17 @@ module _ {D : Type 0} (state : D → DiskState) (is_told is_honest : D → Bool)
         fate = fate_after None own;
         cut = inr refl;
         seat = subst (IsSeat state kinds rest) (sym (acted-after s e now None own lead))
-            (rests (changed_kept (changes.Append (entry_of e ∷ [])) u.disk.kept) (longer_by e s.member.durable) is.mountable.count (held sound fits.0) there
-            (record { candidate = is.durable.candidate; voted = is.durable.voted; log = ap (λ (l : Log). l ++ entry_of e ∷ []) is.durable.log; snapshots = is.durable.snapshots }));
+            (rests (longer_by e s.member.durable) (left-by (changes.Append (entry_of e ∷ [])) (held sound fits.0) (all-more u.disk.kept.log (entry_of e ∷ []) (snapshots_of u.disk.kept.entries) is.mountable.bases) there));
       }
 
       pub fallen : Falls state kinds now s e rest
-      fallen = one (went.each (right honest) (left state kinds choice v.disk.disk d crash sound-files) (is-image state kinds choice v.disk.disk d crash sound-files))
+      fallen = one (went.each (right honest) image (left-image choice (state v.disk.disk) (state d) crash sound-files))
 
   -- ---- what was decided on is done
 
-  pub made : (u v : UpSeen D) (going : Bool) (choice : Choice) (ended : List EndedSeen) (s : Seat) (now : ℕ) (o : Outcome) (term : ℤ) (w : View) (decision : Decided) → IsSeat state kinds (running u going choice ended) s → IsTrue (is_honest u.disk.disk)
-      → Stays u v → Sound u → Sound v → OnNothingNew o (v.disk ≡ u.disk) → Leaves o term u.disk.kept v.disk.kept → IsView w u.core.values u.disk.kept.log (at_end u.module_held) → Admits w (at_end u.module_held).counts.actions now decision
-      → OnAppend decision (λ e. IsBytes (content_of e)) → OnAppend decision (λ e. Adds state is_told is_honest e u.disk v.disk) → IsDone decision now o u.disk.kept v.disk.kept u.module_held v.module_held → Makes state kinds decision now s (running v going choice ended)
+  pub made : (u v : UpSeen D) (going : Bool) (choice : Choice) (ended : List EndedSeen) (s : Seat) (now : ℕ) (o : Outcome) (term : ℤ) (w : View) (decision : Decided) → IsSeat state kinds (running_seat choice ended u going) s → IsTrue (is_honest u.disk.disk)
+      → Stays u v → GoesOn u → GoesOn v → OnNothingNew o (v.disk ≡ u.disk) → Leaves o term u.disk.kept v.disk.kept → IsView w u.core.values u.disk.kept.log (at_end u.module_held) → Admits w (at_end u.module_held).counts.actions now decision
+      → OnAppend decision (λ e. IsBytes (content_of e)) → OnAppend decision (λ e. Adds state is_told is_honest e u.disk v.disk) → IsDone decision now o u.disk.kept v.disk.kept u.module_held v.module_held → Makes state kinds decision now s (running_seat choice ended v going)
   made u v going choice ended s now o term w (decisions.Refuse refusal) seat honest stays sound whole untouched leaves view ad fit adds done =
       refused state kinds u v going choice ended s stays (nothing-new (v.disk ≡ u.disk) o term u.disk.kept v.disk.kept leaves done.1 untouched) done.2 seat
   made u v going choice ended s now o term w (decisions.Alive session) seat honest stays sound whole untouched leaves view ad fit adds done =

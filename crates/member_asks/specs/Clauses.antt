@@ -6,8 +6,8 @@ use Rattle.egress.specs.declared.sent.Sent.{Sent}
 use Rattle.ingress.specs.declared.outcome.Outcome.{Outcome}
 use Rattle.member_module.specs.Held.{at_end}
 use Rattle.consensus_agent.specs.Accepted.{IsDecided, IsDecidedAction, IsDirect, Leaves, OnNothingNew, TookAction, TookClient, Tried}
-use Rattle.consensus_agent.specs.Sound.{IsSound}
 use Rattle.run_orders.specs.Stands.{UpSeen}
+use Rattle.member_rows.specs.Calls.{GoesOn}
 
 -- what no order changes: clauses `services`, `base`, `role`, `values` and `over`
 pub record Stays {D : Type 0} (u v : UpSeen D) : Type 0 where
@@ -16,10 +16,6 @@ pub record Stays {D : Type 0} (u v : UpSeen D) : Type 0 where
   pub role : v.role ≡ u.role
   pub values : v.core.values ≡ u.core.values
   pub over : v.over ≡ u.over
-
--- the ghost field `sound` of a member that is whole
-abbrev pub Sound : {D : Type 0} → UpSeen D → Type 0
-Sound u = IsSound u.core.values u.disk.kept u.disk.whole u.module_held
 
 module _ {D : Type 0} (state : D → DiskState) (is_told is_honest : D → Bool) where
   -- ---- a client's message
@@ -33,16 +29,16 @@ module _ {D : Type 0} (state : D → DiskState) (is_told is_honest : D → Bool)
     pub direct : IfSome answer IsDirect
     pub leaves : Leaves o u.core.values.election.term u.disk.kept v.disk.kept
     -- clause `whole`, with the ghost field `sound`
-    pub whole : Sound v
+    pub whole : GoesOn v
     -- clause `was_whole`, with the ghost field `sound`
-    pub sound : Sound u
+    pub sound : GoesOn u
 
   -- a call of its disk failed: the answer is Err, and not NoMemory
   pub record ClientFailed (bytes : List ℕ) (now : ℕ) (u v : UpSeen D) : Type 0 where
     pub octets : IsBytes bytes
     pub stays : Stays u v
     -- clause `was_whole`, with the ghost field `sound`
-    pub sound : Sound u
+    pub sound : GoesOn u
     pub tried : Tried state is_told is_honest (λ w. IsDecided w bytes now) u.core.values u.module_held u.disk v.disk
 
   -- ---- an action
@@ -54,13 +50,13 @@ module _ {D : Type 0} (state : D → DiskState) (is_told is_honest : D → Bool)
     pub untouched : OnNothingNew o (v.disk ≡ u.disk)
     pub leaves : Leaves o u.core.values.election.term u.disk.kept v.disk.kept
     -- clause `whole`, with the ghost field `sound`
-    pub whole : Sound v
+    pub whole : GoesOn v
     -- clause `was_whole`, with the ghost field `sound`
-    pub sound : Sound u
+    pub sound : GoesOn u
 
   -- a call of its disk failed: the answer is Err, and not NoMemory
   pub record ActionFailed (now : ℕ) (u v : UpSeen D) : Type 0 where
     pub stays : Stays u v
     -- clause `was_whole`, with the ghost field `sound`
-    pub sound : Sound u
+    pub sound : GoesOn u
     pub tried : Tried state is_told is_honest (λ w. IsDecidedAction w (at_end u.module_held) now) u.core.values u.module_held u.disk v.disk

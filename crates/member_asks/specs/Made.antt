@@ -1,11 +1,8 @@
 -- What an order of a client, or an action, makes of a member in the world of a run.
-use Rattle.std.specs.Prelude.{◌≡◌, ◌⊎◌, ℕ, Bool, true, false, List, [], map}
+use Rattle.std.specs.Prelude.{◌≡◌, ◌⊎◌, ℕ, true, false, List, []}
 use Rattle.cl_base.specs.Disk.{DiskState}
-use Rattle.cl_base.specs.declared.disk.Choice.{Choice}
-use Rattle.cl_base.specs.declared.disk.Choice.TheVariants.{Keep}
 use Rattle.sbe_events.specs.declared.event.Event.{Event}
 use Rattle.service_api.specs.declared.shipped.Kind.{Kind}
-use Rattle.service_container.specs.Held.{Held as ContainerHeld}
 use Rattle.ingress.specs.declared.decision.Decided.{Decided}
 use Rattle.ingress.specs.declared.decision.Decided.TheVariants as decisions
 use Rattle.module_state.specs.Entries.{IsSpellable}
@@ -14,23 +11,7 @@ use Rattle.service_runs.specs.Hosts.{longer}
 use Rattle.run_world.specs.Seat.{Seat, Fate, acted}
 use Rattle.run_world.specs.RunWorld.{RunWorld, committed, hears, may_ask, put}
 use Rattle.run_orders.specs.Rounds.{Asked}
-use Rattle.run_orders.specs.Stands.{EndedSeen, SeatSeen, UpSeen, Up, Down, IsSeat}
-
--- a member that runs, in its place
-abbrev pub running : {D : Type 0} → UpSeen D → Bool → Choice → List EndedSeen → SeatSeen D
-running u going choice ended = record { home = Up u going; choice = choice; ended = ended }
-
--- one that stopped: its disk is at rest
-abbrev pub resting : {D : Type 0} → D → List EndedSeen → SeatSeen D
-resting d ended = record { home = Down d; choice = Keep; ended = ended }
-
--- what a container consumed since its run began with so many entries
-abbrev pub ended_of : ℕ → ContainerHeld → EndedSeen
-ended_of base c = record { from = base; inputs = c.inputs }
-
--- the same of each container of a run that ends
-abbrev pub ended_by : ℕ → List ContainerHeld → List EndedSeen
-ended_by base cs = map (ended_of base) cs
+use Rattle.run_orders.specs.Stands.{IsSeat, SeatSeen}
 
 module _ {D : Type 0} (state : D → DiskState) (kinds : List Kind) where
   -- an event that may be asked was appended: what the driver has then is the member after its row

@@ -1,7 +1,7 @@
 //! What clients and operators ask of a member, as acts of the world of a run.
 #![tactic(auto)]
 
-ghost use Rattle.std.specs.Prelude.{◌≡◌, ◌≤◌, ◌&&◌, ◌++◌, ℕ, Bool, false, IsTrue, List, Option, length};
+ghost use Rattle.std.specs.Prelude.{◌≡◌, ◌≤◌, ◌&&◌, ℕ, Bool, false, IsTrue, List, Option, length};
 ghost use Rattle.cl_base.specs.Disk.{CrashLeaves};
 ghost use Rattle.cl_base.specs.declared.disk.Choice.{Choice};
 ghost use Rattle.egress.specs.Streams.{StreamSeen, sent_more};
@@ -15,9 +15,10 @@ ghost use Rattle.run_world.specs.Seat.{Seat};
 ghost use Rattle.consensus_agent.specs.Accepted.{IsDirect};
 ghost use Rattle.run_orders.specs.Phases.{Beside};
 ghost use Rattle.run_orders.specs.Rounds.{Asked};
-ghost use Rattle.run_orders.specs.Stands.{AreRecords, EndedSeen, IsSeat, UpSeen, containers_of};
+ghost use Rattle.run_orders.specs.Stands.{AreRecords, EndedSeen, IsSeat, UpSeen};
 ghost use Rattle.member_asks.specs.Clauses.{ActionFailed, ActionTaken, ClientFailed, ClientTaken};
-ghost use Rattle.member_asks.specs.Made.{Falls, Makes, MakesOne, ended_by, resting, running};
+ghost use Rattle.member_asks.specs.Made.{Falls, Makes, MakesOne};
+ghost use Rattle.member_rows.specs.Places.{running_seat, stopped_seat};
 
 use cl_base::Disk;
 
@@ -26,21 +27,21 @@ use cl_base::Disk;
 /// leaves the member before or after that event's row.
 pub fn a_client_is_answered<D: Disk>()
     ensures taken { (kinds : List Kind) (u v : UpSeen D) (going : Bool) (choice : Choice) (ended : List EndedSeen) (s : Seat) (bytes : List ℕ) (now : ℕ) (o : Outcome) (answer : Option Sent)
-        → IsSeat D.state kinds (running u going choice ended) s → IsTrue (D.is_honest u.disk.disk) → (by : ClientTaken D.state D.tells D.is_honest bytes now o answer u v)
-        → Makes D.state kinds by.took.decision now s (running v going choice ended) }
+        → IsSeat D.state kinds (running_seat choice ended u going) s → IsTrue (D.is_honest u.disk.disk) → (by : ClientTaken D.state D.tells D.is_honest bytes now o answer u v)
+        → Makes D.state kinds by.took.decision now s (running_seat choice ended v going) }
     ensures failed { (kinds : List Kind) (u v : UpSeen D) (going : Bool) (choice : Choice) (ended : List EndedSeen) (s : Seat) (bytes : List ℕ) (now : ℕ) (d : D)
-        → IsSeat D.state kinds (running u going choice ended) s → IsTrue (D.is_honest u.disk.disk) → (by : ClientFailed D.state D.tells D.is_honest bytes now u v) → CrashLeaves choice (D.state v.disk.disk) (D.state d)
-        → Falls D.state kinds now s by.tried.event (resting d (ended ++ ended_by v.base (containers_of going v.lending))) }
+        → IsSeat D.state kinds (running_seat choice ended u going) s → IsTrue (D.is_honest u.disk.disk) → (by : ClientFailed D.state D.tells D.is_honest bytes now u v) → CrashLeaves choice (D.state v.disk.disk) (D.state d)
+        → Falls D.state kinds now s by.tried.event (stopped_seat ended v going d) }
 {}
 
 /// The same of an action.
 pub fn an_action_is_answered<D: Disk>()
     ensures taken { (kinds : List Kind) (u v : UpSeen D) (going : Bool) (choice : Choice) (ended : List EndedSeen) (s : Seat) (now : ℕ) (o : Outcome)
-        → IsSeat D.state kinds (running u going choice ended) s → IsTrue (D.is_honest u.disk.disk) → (by : ActionTaken D.state D.tells D.is_honest now o u v)
-        → Makes D.state kinds by.took.decision now s (running v going choice ended) }
+        → IsSeat D.state kinds (running_seat choice ended u going) s → IsTrue (D.is_honest u.disk.disk) → (by : ActionTaken D.state D.tells D.is_honest now o u v)
+        → Makes D.state kinds by.took.decision now s (running_seat choice ended v going) }
     ensures failed { (kinds : List Kind) (u v : UpSeen D) (going : Bool) (choice : Choice) (ended : List EndedSeen) (s : Seat) (now : ℕ) (d : D)
-        → IsSeat D.state kinds (running u going choice ended) s → IsTrue (D.is_honest u.disk.disk) → (by : ActionFailed D.state D.tells D.is_honest now u v) → CrashLeaves choice (D.state v.disk.disk) (D.state d)
-        → Falls D.state kinds now s by.tried.event (resting d (ended ++ ended_by v.base (containers_of going v.lending))) }
+        → IsSeat D.state kinds (running_seat choice ended u going) s → IsTrue (D.is_honest u.disk.disk) → (by : ActionFailed D.state D.tells D.is_honest now u v) → CrashLeaves choice (D.state v.disk.disk) (D.state d)
+        → Falls D.state kinds now s by.tried.event (stopped_seat ended v going d) }
 {}
 
 /// What a member answers at once, and not by an entry, is no record of the world.
@@ -52,24 +53,24 @@ pub fn an_answer_is_no_record()
 pub fn a_client_asks<D: Disk>()
     ensures taken { (n : ℕ) (kinds : List Kind) (w : RunWorld) (m : ℕ) (u v : UpSeen D) (going : Bool) (choice : Choice) (ended : List EndedSeen) (bytes : List ℕ) (o : Outcome) (answer : Option Sent)
         → n ≤ 5 → length kinds ≤ 3 → Lawful n kinds w → (going && u.over) ≡ false
-        → IsSeat D.state kinds (running u going choice ended) (seat w m) → IsTrue (D.is_honest u.disk.disk) → ClientTaken D.state D.tells D.is_honest bytes w.now o answer u v
-        → MakesOne D.state kinds m w (running v going choice ended) }
+        → IsSeat D.state kinds (running_seat choice ended u going) (seat w m) → IsTrue (D.is_honest u.disk.disk) → ClientTaken D.state D.tells D.is_honest bytes w.now o answer u v
+        → MakesOne D.state kinds m w (running_seat choice ended v going) }
     ensures failed { (n : ℕ) (kinds : List Kind) (w : RunWorld) (m : ℕ) (u v : UpSeen D) (going : Bool) (choice : Choice) (ended : List EndedSeen) (bytes : List ℕ) (d : D)
         → n ≤ 5 → length kinds ≤ 3 → Lawful n kinds w → (going && u.over) ≡ false
-        → IsSeat D.state kinds (running u going choice ended) (seat w m) → IsTrue (D.is_honest u.disk.disk) → ClientFailed D.state D.tells D.is_honest bytes w.now u v → CrashLeaves choice (D.state v.disk.disk) (D.state d)
-        → MakesOne D.state kinds m w (resting d (ended ++ ended_by v.base (containers_of going v.lending))) }
+        → IsSeat D.state kinds (running_seat choice ended u going) (seat w m) → IsTrue (D.is_honest u.disk.disk) → ClientFailed D.state D.tells D.is_honest bytes w.now u v → CrashLeaves choice (D.state v.disk.disk) (D.state d)
+        → MakesOne D.state kinds m w (stopped_seat ended v going d) }
 {}
 
 /// The same of an action.
 pub fn an_action_asks<D: Disk>()
     ensures taken { (n : ℕ) (kinds : List Kind) (w : RunWorld) (m : ℕ) (u v : UpSeen D) (going : Bool) (choice : Choice) (ended : List EndedSeen) (o : Outcome)
         → n ≤ 5 → length kinds ≤ 3 → Lawful n kinds w → (going && u.over) ≡ false
-        → IsSeat D.state kinds (running u going choice ended) (seat w m) → IsTrue (D.is_honest u.disk.disk) → ActionTaken D.state D.tells D.is_honest w.now o u v
-        → MakesOne D.state kinds m w (running v going choice ended) }
+        → IsSeat D.state kinds (running_seat choice ended u going) (seat w m) → IsTrue (D.is_honest u.disk.disk) → ActionTaken D.state D.tells D.is_honest w.now o u v
+        → MakesOne D.state kinds m w (running_seat choice ended v going) }
     ensures failed { (n : ℕ) (kinds : List Kind) (w : RunWorld) (m : ℕ) (u v : UpSeen D) (going : Bool) (choice : Choice) (ended : List EndedSeen) (d : D)
         → n ≤ 5 → length kinds ≤ 3 → Lawful n kinds w → (going && u.over) ≡ false
-        → IsSeat D.state kinds (running u going choice ended) (seat w m) → IsTrue (D.is_honest u.disk.disk) → ActionFailed D.state D.tells D.is_honest w.now u v → CrashLeaves choice (D.state v.disk.disk) (D.state d)
-        → MakesOne D.state kinds m w (resting d (ended ++ ended_by v.base (containers_of going v.lending))) }
+        → IsSeat D.state kinds (running_seat choice ended u going) (seat w m) → IsTrue (D.is_honest u.disk.disk) → ActionFailed D.state D.tells D.is_honest w.now u v → CrashLeaves choice (D.state v.disk.disk) (D.state d)
+        → MakesOne D.state kinds m w (stopped_seat ended v going d) }
 {}
 
 /// What is asked between phases that go on over orders, or of a member without any, is what an order may ask.

@@ -1,5 +1,5 @@
 -- What a crash leaves of the disk of a member under which a phase's writes failed.
-use Rattle.std.proofs.Common.{◌≡◌, ◌⊎◌, inl, inr, ℕ, ◌+◌, ◌≤◌, pos, Bool, true, false, ◌&&◌, List, [], ◌∷◌, ◌++◌, length, map, Some, refl, sym, ap, ◌∙◌, subst, if◌then◌else◌}
+use Rattle.std.proofs.Common.{◌≡◌, ◌⊎◌, inl, inr, ℕ, ◌+◌, ◌≤◌, ℤ, pos, Bool, true, false, ◌&&◌, List, [], ◌∷◌, ◌++◌, length, map, Some, refl, sym, ap, ◌∙◌, subst, if◌then◌else◌}
 use Rattle.std.specs.Prelude.{nat_eq}
 use Rattle.std.specs.List.{list_any}
 use Rattle.std.proofs.lemmas.List.{append_assoc}
@@ -29,13 +29,13 @@ use Rattle.module_state.specs.Entries.{IsWellFormedOn}
 use Rattle.service_api.specs.declared.shipped.Kind.{Kind}
 use Rattle.service_phases.specs.Pairs.{Each, Each2}
 use Rattle.service_runs.specs.Hosts.{Due}
-use Rattle.run_orders.specs.Kept.{IsMountable, IsStateOf, IsStored}
+use Rattle.run_orders.specs.Kept.{Begins, HasBase, IsMountable, IsStateOf, IsStored}
 use Rattle.member_rows.proofs.Images.{IsLeft, durable-left, left-image}
 use Rattle.member_phases.specs.Cuts.{HasFile, HasLastFile}
-use Rattle.member_phases.specs.Snapshots.{HasBase, all_put, snap_in, snapshot_as}
+use Rattle.member_phases.specs.Snapshots.{all_put, snap_in, snapshot_as}
 use Rattle.member_phases.proofs.Owed.{each-append}
 use Rattle.member_phases.proofs.Puts.{NamedIn, counts, named-head, there-any}
-use Rattle.member_phases.proofs.Written.{Keeps, all-kept, nat-same, others-stored}
+use Rattle.member_phases.proofs.Written.{Keeps, all-kept, each-on, nat-same, others-stored}
 
 -- ---- of the snapshots that are due, those that were written and those behind them
 
@@ -89,7 +89,7 @@ module _ (kinds : List Kind) (log : Log) (few : length kinds ≤ 3) (formed : Is
 
   module _ (a : DiskHeld D) (d : Durable) (k : Keeps kinds log few formed state is_told is_honest a d) where
     may-mount : IsMountable (length kinds) a.kept
-    may-mount = record { count = k.count; held = k.held; terms = k.right.terms }
+    may-mount = record { count = k.count; held = k.held; terms = k.right.terms; bases = subst (λ (l : Log). Each (HasBase l) (snapshots_of a.kept.entries)) (sym k.same_log) k.bases }
 
     -- the disk is as it was
     same-left : b.disk ≡ a.disk → Left d
@@ -122,7 +122,7 @@ module _ (kinds : List Kind) (log : Log) (few : length kinds ≤ 3) (formed : Is
           let r = and_true (same_term e.term t.term) (nat_eq e.position t.position && same_term e.stamp t.stamp) q.1 in
           let u = and_true (nat_eq e.position t.position) (same_term e.stamp t.stamp) r.1 in
           let term : x.term ≡ e.term = is.term ∙ sym (same_term-is e.term t.term r.0) in
-          let base : x.base ≡ pos (base_of e.term (new_terms 0 a.kept.log)) = z.so ∙ (λ i. pos (base_of (term i) (new_terms 0 (sym k.same_log i)))) in
+          let base : x.base ≡ pos (base_of e.term (new_terms 0 a.kept.log)) = z.so.base ∙ (λ i. pos (base_of (term i) (new_terms 0 (sym k.same_log i)))) in
           let recording : x.recording ≡ pos e.recording = is.recording ∙ ap pos (sym (nat-same e.recording t.recording p.0)) in
           let position : x.position ≡ pos e.position = is.position ∙ ap pos (sym (nat-same e.position t.position u.0)) in
           let stamp : x.stamp ≡ e.stamp = is.stamp ∙ sym (same_term-is e.stamp t.stamp u.1) in
@@ -148,17 +148,30 @@ module _ (kinds : List Kind) (log : Log) (few : length kinds ≤ 3) (formed : Is
         old-state : IsStateOf a.kept (state b.disk).files d
         old-state = record { candidate = k.durable.candidate; voted = k.durable.voted; log = k.durable.log; snapshots = old }
 
+        -- with its entry behind the others
+        more : snapshots_of (a.kept.entries ++ entry ∷ []) ≡ snapshots_of a.kept.entries ++ entry ∷ []
+        more = filter-append is_put a.kept.entries (entry ∷ []) ∙ ap (λ (x : Bool). snapshots_of a.kept.entries ++ (if x then entry ∷ [] else [])) valid
+
+        put-base : HasBase log entry
+        put-base = record {
+          begins = subst (λ (t : ℤ). Begins t log) (sym (ap (λ (q : SnapshotEntry). q.term) name.6)) (k.begin name.0 name.1 name.3);
+          base = ap (λ (l : Log). pos (base_of s.head.term (new_terms 0 l))) k.same_log;
+        }
+
         abbrev put-kept : Kept
         put-kept = (put_part a.kept s.head).makes
 
         put-mounts : IsMountable (length kinds) put-kept
-        put-mounts = record { count = k.count; held = k.held; terms = terms_front a.kept.entries (entry ∷ []) (new_terms 0 a.kept.log) k.right.terms }
+        put-mounts = record {
+          count = k.count;
+          held = k.held;
+          terms = terms_front a.kept.entries (entry ∷ []) (new_terms 0 a.kept.log) k.right.terms;
+          bases = subst (λ (l : Log). Each (HasBase l) (snapshots_of put-kept.entries)) (sym k.same_log) (subst (Each (HasBase log)) (sym more) (each-on (HasBase log) (snapshots_of a.kept.entries) entry k.bases put-base));
+        }
 
         put-state : (state b.disk).files (258 + s.head.recording) ≡ settled_file (spelled s.pieces) → IsStateOf put-kept (state b.disk).files (record d { snapshots = put_in e d.snapshots })
         put-state stored =
             let files = (state b.disk).files in
-            let more : snapshots_of (a.kept.entries ++ entry ∷ []) ≡ snapshots_of a.kept.entries ++ entry ∷ [] =
-            filter-append is_put a.kept.entries (entry ∷ []) ∙ ap (λ (x : Bool). snapshots_of a.kept.entries ++ (if x then entry ∷ [] else [])) valid in
             let put : put_in e d.snapshots ≡ d.snapshots ++ e ∷ [] = ap (λ (z : Bool). if z then d.snapshots else d.snapshots ++ e ∷ []) none in
             let here : IsStored files entry e = record { recording = refl; service = refl; term = refl; position = refl; stamp = refl; pieces = stored } in
             let all : Each2 (IsStored files) (snapshots_of a.kept.entries ++ entry ∷ []) (d.snapshots ++ e ∷ []) = each-append (IsStored files) (snapshots_of a.kept.entries) (entry ∷ []) d.snapshots (e ∷ []) old (here, tt) in

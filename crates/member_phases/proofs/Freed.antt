@@ -28,14 +28,14 @@ use Rattle.run_world.specs.Lawful.{Lawful}
 use Rattle.run_world.specs.Rounds.{phase_over}
 use Rattle.run_world.specs.Seat.{Fate, Faults, Seat, sent as at_its_end}
 use Rattle.run_world.specs.RunWorld.{RunWorld, seat}
-use Rattle.run_orders.specs.Kept.{HasFaults, IsMountable, IsStateOf}
+use Rattle.run_orders.specs.Kept.{HasBase, HasFaults, IsMountable, IsStateOf}
 use Rattle.run_orders.specs.Stands.{HaveInputs, IsUp, UpSeen, term_led}
 use Rattle.member_rows.specs.Calls.{GoesOn as MemberGoesOn}
 use Rattle.member_phases.specs.Calls.{commit_of, snapshots_due, stage_of}
 use Rattle.member_phases.specs.Frees.{EndsSo, FreeEnded, HaveOutputs, PhaseRuns}
 use Rattle.member_phases.specs.Grown.{GrewTo}
 use Rattle.member_phases.specs.Seats.{all_fed}
-use Rattle.member_phases.specs.Snapshots.{HasBase, all_put, snap_in, snapshot_as}
+use Rattle.member_phases.specs.Snapshots.{all_put, snap_in, snapshot_as}
 use Rattle.member_phases.proofs.Acts.{each_fate, ends-whole, faults_after, keeps-put}
 use Rattle.member_phases.proofs.Ended.{all-inputs, commit-within, entries-at, events-at, formed, records-are, same-commit, snapshots-are, state-after, within}
 use Rattle.member_phases.proofs.Events.{rest-events}
@@ -116,7 +116,7 @@ module _ {D : Type 0} (state : D → DiskState) (is_told is_honest : D → Bool)
 
 module _ {D : Type 0} (state : D → DiskState) (is_told is_honest : D → Bool) (kinds : List Kind) (n : ℕ) (w : RunWorld) (m : ℕ) (five : n ≤ 5) (three : length kinds ≤ 3) (lawful : Lawful n kinds w) (u v : UpSeen D) (feeds : List Fed) (sent : List Sent)
     (up : IsUp state kinds u true (seat w m)) (runs : PhaseRuns kinds u feeds (seat w m)) (d : FreeEnded state is_told is_honest u v feeds sent)
-    (honest : IsTrue (is_honest u.disk.disk)) (told : IsTrue (is_told u.disk.disk)) (bases : Each (HasBase (seat w m).member.durable.log) (snapshots_kept u.disk.kept.entries)) where
+    (honest : IsTrue (is_honest u.disk.disk)) (told : IsTrue (is_told u.disk.disk)) where
   abbrev s : Seat
   s = seat w m
 
@@ -203,7 +203,7 @@ module _ {D : Type 0} (state : D → DiskState) (is_told is_honest : D → Bool)
 
   kept-on : Keeps kinds past three (formed state kinds n w m five three lawful u true up) state is_told is_honest v.disk (all_put dues s.member).durable
   kept-on = all-kept kinds past three (formed state kinds n w m five three lawful u true up) state is_told is_honest dues (snapshots_due u v) u.disk v.disk s.member snaps (dues-named kinds past s.applied commit)
-      (up-keeps state is_told is_honest kinds n w m five three lawful u true up honest told bases) (d.written rising)
+      (up-keeps state is_told is_honest kinds n w m five three lawful u true up honest told) (d.written rising)
 
   abbrev fate : Fate
   fate = record { cut = Whole; lets = (state v.disk.disk).lets; own = (state v.disk.disk).own_faults }
@@ -220,12 +220,8 @@ module _ {D : Type 0} (state : D → DiskState) (is_told is_honest : D → Bool)
         after = record (at_its_end commit (all_fed s)) { member = all_put dues s.member; faults = faults_after fate dues s.faults };
         records = sent_in (rules_of kinds) m (term_led u.role) past s.applied commit;
         acted = ends-act kinds m fed.0 (each_fate fate dues) None w _ (sym (ap (λ (x : RunWorld). phase_over kinds m (each_fate fate dues) None x) fed.1 ∙ over));
-        up = up-after (all_put dues s.member) (faults_after fate dues s.faults) (keeps.0 ∙ up.up) keeps.1 keeps.2 (record { count = kept-on.count; held = kept-on.held; terms = kept-on.right.terms }) kept-on.right.each kept-on.durable;
+        up = up-after (all_put dues s.member) (faults_after fate dues s.faults) (keeps.0 ∙ up.up) keeps.1 keeps.2 (record { count = kept-on.count; held = kept-on.held; terms = kept-on.right.terms; bases = subst (λ (l : Log). Each (HasBase l) (snapshots_kept v.disk.kept.entries)) (sym kept-on.same_log) kept-on.bases }) kept-on.right.each kept-on.durable;
         each = records-are state kinds n w m five three lawful u true up v z.cs z.xss z.grows z.count u.role sent (d.owed rising);
         ended = refl;
         faults = λ choice has. faults-kept state is_told is_honest (snapshots_due u v) dues u.disk v.disk s.faults choice (record { honest = honest; each = up.each; terms = up.mountable.terms }) (d.written rising) snaps has;
       }
-
-  -- with the log and what is kept of the disk its snapshots' bases go on
-  pub free-bases : Each (HasBase past) (snapshots_kept v.disk.kept.entries)
-  free-bases = kept-on.bases

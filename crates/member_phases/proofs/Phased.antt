@@ -32,7 +32,8 @@ use Rattle.run_world.specs.Lawful.{Lawful}
 use Rattle.run_world.specs.Seat.{Fate, Faults, Seat}
 use Rattle.run_world.specs.RunWorld.{RunWorld, seat}
 use Rattle.run_world.proofs.Shown.{member-shown}
-use Rattle.run_orders.specs.Kept.{HasFaults, IsMountable, IsStateOf}
+use Rattle.run_orders.specs.Kept.{HasBase, HasFaults, IsMountable, IsStateOf}
+use Rattle.run_orders.proofs.Begun.{entries-begin}
 use Rattle.run_orders.specs.Stands.{HasInput, HaveInputs, IsRecord, IsUp, UpSeen, term_led}
 use Rattle.member_phases.specs.Calls.{IsBetween, PhaseDone, behind, commit_of, snapshots_due}
 use Rattle.member_phases.specs.Grown.{GrewTo}
@@ -43,7 +44,7 @@ use Rattle.member_phases.proofs.Grown.{grown, take-on}
 use Rattle.member_phases.proofs.Moduled.{module-grown}
 use Rattle.member_phases.proofs.Owed.{none-below}
 use Rattle.member_phases.proofs.Recorded.{records-each, snapshots-each}
-use Rattle.member_phases.specs.Snapshots.{HasBase, all_put, snap_in, snapshot_as}
+use Rattle.member_phases.specs.Snapshots.{all_put, snap_in, snapshot_as}
 use Rattle.member_disk.specs.CutWell.{snapshots_of as snapshots_kept}
 use Rattle.member_phases.proofs.Written.{Keeps, all-kept, dues-named, snaps-named}
 use Rattle.consensus_agent.specs.Disks.{IsRight}
@@ -313,28 +314,6 @@ module _ {D : Type 0} (state : D → DiskState) (is_told is_honest : D → Bool)
         ∙ ap (λ (k : ℕ). map snap_in (due_in (rules_of kinds) past k (commit_of u))) up.has_module.applied
         ∙ ap (λ (k : ℕ). map snap_in (due_in (rules_of kinds) past s.applied k)) same-commit
 
-    -- none is written
-    disk-same : due_in (rules_of kinds) past s.applied s.member.values.rest.commit ≡ [] → v.disk ≡ u.disk
-    disk-same none = unwritten (snapshots_due u v) (snapshots-are ∙ ap (map snap_in) none) d.written
-      where
-        unwritten : (ss : List Snapshot) → map snapshot_as ss ≡ [] → AreWritten state is_told is_honest ss u.disk v.disk → v.disk ≡ u.disk
-        unwritten [] e same = same
-        unwritten (x ∷ ss) e same = absurd (cc)
-
-    -- ---- a phase in which no snapshot is due
-
-    pub plain-phase : due_in (rules_of kinds) past s.applied s.member.values.rest.commit ≡ [] → IsPhase state kinds m u v sent w
-    plain-phase none = let same = disk-same none in record {
-      after = after n kinds w m lawful up.up up.phase count;
-      records = records n kinds w m lawful up.up up.phase count;
-      phased = phase-plain n kinds w m lawful up.up up.phase count none;
-      up = up-after s.member s.faults up.up refl refl (subst (λ (h : DiskHeld D). IsMountable (length kinds) h.kept) (sym same) up.mountable) (subst (λ (h : DiskHeld D). EachStands h.kept (state h.disk).files) (sym same) up.each)
-          (subst (λ (h : DiskHeld D). IsStateOf h.kept (state h.disk).files s.member.durable) (sym same) up.durable);
-      each = new-records;
-      ended = refl;
-      faults = λ choice has. subst (λ (h : DiskHeld D). HasFaults (state h.disk) choice s.faults) (sym same) has;
-    }
-
     -- ---- a phase that writes snapshots
 
     -- a fuse that burnt before burns no more
@@ -354,7 +333,7 @@ module _ {D : Type 0} (state : D → DiskState) (is_told is_honest : D → Bool)
     abbrev fate : Fate
     fate = record { cut = Whole; lets = (state v.disk.disk).lets; own = (state v.disk.disk).own_faults }
 
-    module _ (honest : IsTrue (is_honest u.disk.disk)) (told : IsTrue (is_told u.disk.disk)) (bases : Each (HasBase past) (snapshots_kept u.disk.kept.entries)) where
+    module _ (honest : IsTrue (is_honest u.disk.disk)) (told : IsTrue (is_told u.disk.disk)) where
       abbrev due_here : List Due
       due_here = due_in (rules_of kinds) past s.applied s.member.values.rest.commit
 
@@ -364,17 +343,14 @@ module _ {D : Type 0} (state : D → DiskState) (is_told is_honest : D → Bool)
       -- its disk stands for the member that put all
       kept-on : Keeps kinds past three formed state is_told is_honest v.disk (all_put due_here s.member).durable
       kept-on = all-kept kinds past three formed state is_told is_honest due_here (snapshots_due u v) u.disk v.disk s.member snapshots-are (dues-named kinds past s.applied s.member.values.rest.commit)
-          (record { right = right; told = told; count = up.mountable.count; held = up.mountable.held; same_log = sym up.durable.log; durable = up.durable; bases = bases; named = snaps-named n kinds w m lawful }) d.written
-
-      pub bases-stay : Each (HasBase past) (snapshots_kept v.disk.kept.entries)
-      bases-stay = kept-on.bases
+          (record { right = right; told = told; count = up.mountable.count; held = up.mountable.held; same_log = sym up.durable.log; durable = up.durable; bases = subst (λ (l : Log). Each (HasBase l) (snapshots_kept u.disk.kept.entries)) (sym up.durable.log) up.mountable.bases; named = snaps-named n kinds w m lawful; begin = entries-begin n kinds w m five three lawful }) d.written
 
       pub written-phase : IsPhase state kinds m u v sent w
       written-phase = record {
         after = after-puts n kinds w m lawful up.up up.phase count fate;
         records = records n kinds w m lawful up.up up.phase count;
         phased = phase-whole n kinds w m lawful up.up up.phase count fate refl;
-        up = up-after (all_put due_here s.member) (left-after n kinds w m lawful up.up up.phase count fate due_here s.faults) (keeps.0 ∙ up.up) keeps.1 keeps.2 (record { count = kept-on.count; held = kept-on.held; terms = kept-on.right.terms }) kept-on.right.each kept-on.durable;
+        up = up-after (all_put due_here s.member) (left-after n kinds w m lawful up.up up.phase count fate due_here s.faults) (keeps.0 ∙ up.up) keeps.1 keeps.2 (record { count = kept-on.count; held = kept-on.held; terms = kept-on.right.terms; bases = subst (λ (l : Log). Each (HasBase l) (snapshots_kept v.disk.kept.entries)) (sym kept-on.same_log) kept-on.bases }) kept-on.right.each kept-on.durable;
         each = new-records;
         ended = refl;
         faults = λ choice has. by due_here snapshots-are choice has;

@@ -1,11 +1,12 @@
 -- One snapshot after the other is put, on both sides.
 use Rattle.std.proofs.Common.{◌≡◌, ℕ, suc, ◌+◌, ◌≤◌, ℤ, pos, Bool, true, false, ◌&&◌, ◌||◌, List, [], ◌∷◌, ◌++◌, length, map, Some, refl, sym, ap, ◌∙◌, subst, arith, if◌then◌else◌}
-use Rattle.std.specs.Prelude.{Contains, IsTrue, nat_eq}
+use Rattle.std.specs.Prelude.{Contains, IsTrue, nat_eq, slice_get}
 use Rattle.std.specs.List.{list_any}
 use Rattle.std.proofs.lemmas.Bool.Decides.{nat_tests}
 use Rattle.std.proofs.lemmas.Int.{ints}
 use Rattle.std.proofs.lemmas.List.Elements.{filter-append}
 use Rattle.cl_base.specs.Disk.{DiskState, FileState}
+use Rattle.cl_base.specs.declared.entry.Entry.{Entry}
 use Rattle.entry_log.specs.Durable.{Durable, SnapshotEntry, put_in, same_entry}
 use Rattle.entry_log.specs.Log.{Log, same_term}
 use Rattle.log_segment.specs.Held.{IsHeld, new_terms}
@@ -32,8 +33,8 @@ use Rattle.run_world.proofs.Shown.{member-shown}
 use Rattle.world.specs.World.{member}
 use Rattle.member_phases.proofs.Worlds.{hosted-of, is-held}
 use Rattle.module_state.specs.Entries.{IsWellFormedOn}
-use Rattle.run_orders.specs.Kept.{IsStateOf, IsStored}
-use Rattle.member_phases.specs.Snapshots.{HasBase, all_put, snap_in, snapshot_as}
+use Rattle.run_orders.specs.Kept.{Begins, HasBase, IsStateOf, IsStored}
+use Rattle.member_phases.specs.Snapshots.{all_put, snap_in, snapshot_as}
 use Rattle.member_phases.proofs.Owed.{each-append}
 use Rattle.member_phases.proofs.Puts.{NamedIn, any-there, counts, named-head, no-both, one-of, there-any}
 
@@ -79,7 +80,7 @@ module _ (kinds : List Kind) (log : Log) (few : length kinds ≤ 3) (formed : Is
         others-stored f g e name same es ts each.1 named.1 no_one.1,
       )
 
-  each-on : {X : Type 0} (P : X → Type 0) (xs : List X) (x : X) → Each P xs → P x → Each P (xs ++ x ∷ [])
+  pub each-on : {X : Type 0} (P : X → Type 0) (xs : List X) (x : X) → Each P xs → P x → Each P (xs ++ x ∷ [])
   each-on P [] x each is = (is, tt)
   each-on P (y ∷ xs) x each is = (each.0, each-on P xs x each.1 is)
 
@@ -93,6 +94,7 @@ module _ (kinds : List Kind) (log : Log) (few : length kinds ≤ 3) (formed : Is
       pub durable : IsStateOf h.kept (state h.disk).files d
       pub bases : Each (HasBase log) (snapshots_of h.kept.entries)
       pub named : Each (NamedIn kinds log) d.snapshots
+      pub begin : (i : ℕ) (x : Entry) → slice_get log i ≡ Some x → Begins x.term log
 
     module _ (s : Snapshot) (a b : DiskHeld D) (d : Durable) (name : NamedIn kinds log (snapshot_as s)) (k : Keeps a d) (w : IsWritten state is_told is_honest s a b) where
       abbrev e : SnapshotEntry
@@ -125,7 +127,7 @@ module _ (kinds : List Kind) (log : Log) (few : length kinds ≤ 3) (formed : Is
           let r = and_true (same_term e.term t.term) (nat_eq e.position t.position && same_term e.stamp t.stamp) q.1 in
           let u = and_true (nat_eq e.position t.position) (same_term e.stamp t.stamp) r.1 in
           let term : x.term ≡ e.term = is.term ∙ sym (same_term-is e.term t.term r.0) in
-          let base : x.base ≡ pos (base_of e.term (new_terms 0 a.kept.log)) = z.so ∙ (λ i. pos (base_of (term i) (new_terms 0 (sym k.same_log i)))) in
+          let base : x.base ≡ pos (base_of e.term (new_terms 0 a.kept.log)) = z.so.base ∙ (λ i. pos (base_of (term i) (new_terms 0 (sym k.same_log i)))) in
           let recording : x.recording ≡ pos e.recording = is.recording ∙ ap pos (sym (nat-same e.recording t.recording p.0)) in
           let position : x.position ≡ pos e.position = is.position ∙ ap pos (sym (nat-same e.position t.position u.0)) in
           let stamp : x.stamp ≡ e.stamp = is.stamp ∙ sym (same_term-is e.stamp t.stamp u.1) in
@@ -149,6 +151,7 @@ module _ (kinds : List Kind) (log : Log) (few : length kinds ≤ 3) (formed : Is
             durable = subst (λ (z : Kept). IsStateOf z (state b.disk).files (record d { snapshots = d.snapshots })) (sym kept) (subst (λ (z : D). IsStateOf a.kept (state z).files (record d { snapshots = d.snapshots })) (sym disk) k.durable);
             bases = subst (λ (z : Kept). Each (HasBase log) (snapshots_of z.entries)) (sym kept) k.bases;
             named = k.named;
+            begin = k.begin;
           }
 
       -- or it is new
@@ -162,7 +165,10 @@ module _ (kinds : List Kind) (log : Log) (few : length kinds ≤ 3) (formed : Is
           let old = others-stored (state a.disk).files fb e name (w.others k.right) (snapshots_of a.kept.entries) d.snapshots k.durable.snapshots k.named none in
           let here : IsStored fb entry e = record { recording = refl; service = refl; term = refl; position = refl; stamp = refl; pieces = w.stored k.told new } in
           let all : Each2 (IsStored fb) (snapshots_of a.kept.entries ++ entry ∷ []) (d.snapshots ++ e ∷ []) = each-append (IsStored fb) (snapshots_of a.kept.entries) (entry ∷ []) d.snapshots (e ∷ []) old (here, tt) in
-          let base : HasBase log entry = ap (λ (l : Log). pos (base_of s.head.term (new_terms 0 l))) k.same_log in
+          let base : HasBase log entry = record {
+            begins = subst (λ (t : ℤ). Begins t log) (sym (ap (λ (q : SnapshotEntry). q.term) name.6)) (k.begin name.0 name.1 name.3);
+            base = ap (λ (l : Log). pos (base_of s.head.term (new_terms 0 l))) k.same_log;
+          } in
           record {
             right = w.right k.right;
             told = told-on;
@@ -173,6 +179,7 @@ module _ (kinds : List Kind) (log : Log) (few : length kinds ≤ 3) (formed : Is
                 (record { candidate = k.durable.candidate; voted = k.durable.voted; log = k.durable.log; snapshots = subst (λ (l : List RecEntry). Each2 (IsStored fb) l (d.snapshots ++ e ∷ [])) (sym more) all });
             bases = subst (λ (z : Kept). Each (HasBase log) (snapshots_of z.entries)) (sym kept) (subst (Each (HasBase log)) (sym more) (each-on (HasBase log) (snapshots_of a.kept.entries) entry k.bases base));
             named = each-on (NamedIn kinds log) d.snapshots e k.named name;
+            begin = k.begin;
           }
 
       one-put : (x : Member) → x.durable ≡ d → Keeps b (puts e Whole x).durable

@@ -1,9 +1,5 @@
 -- A snapshot that a phase puts, as an entry of the world.
-use Rattle.std.specs.Prelude.{◌≡◌, pos, List, [], ◌∷◌}
-use Rattle.entry_log.specs.Log.{Log}
-use Rattle.log_segment.specs.Held.{new_terms}
-use Rattle.member_disk.specs.Changes.{base_of}
-use Rattle.recording_log.specs.declared.entry.RecEntry.{RecEntry}
+use Rattle.std.specs.Prelude.{List, [], ◌∷◌}
 use Rattle.consensus_core.specs.Member.{Member, Whole, puts}
 use Rattle.entry_log.specs.Durable.{SnapshotEntry}
 use Rattle.consensus_agent.specs.Written.{Snapshot}
@@ -16,10 +12,6 @@ snapshot_as s = record { recording = s.head.recording; service = s.head.service;
 -- the entry of what is due
 abbrev pub snap_in : Due → SnapshotEntry
 snap_in d = d.snap
-
--- the entry says where its term begins in this log
-abbrev pub HasBase : Log → RecEntry → Type 0
-HasBase log e = e.base ≡ pos (base_of e.term (new_terms 0 log))
 
 -- the member once all that is due is put
 abbrev pub all_put : List Due → Member → Member

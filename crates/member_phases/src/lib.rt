@@ -6,7 +6,6 @@ ghost use Rattle.commit_counter.specs.Ends.{Fed};
 ghost use Rattle.commit_counter.specs.declared.role.Role.{Role};
 ghost use Rattle.consensus_agent.specs.Consumed.{HaveRising, outboxes};
 ghost use Rattle.entry_log.specs.Log.{Log};
-ghost use Rattle.member_disk.specs.CutWell.{snapshots_of as snapshots_kept};
 ghost use Rattle.module_state.specs.Entries.{IsWellFormedOn, events_in};
 ghost use Rattle.module_state.specs.Places.{log_of};
 ghost use Rattle.module_state.specs.Services.{module_of};
@@ -15,7 +14,7 @@ ghost use Rattle.run_orders.specs.Stands.{AreRecords, EndedSeen, HaveInputs, IsE
 ghost use Rattle.service_api.specs.declared.shipped.Kind.{Kind};
 ghost use Rattle.service_container.specs.Held.{Held};
 ghost use Rattle.service_container.specs.declared.container.Served.{Served};
-ghost use Rattle.service_phases.specs.Pairs.{Each, Each2};
+ghost use Rattle.service_phases.specs.Pairs.{Each2};
 ghost use Rattle.service_runs.specs.Hosts.{Output, due_in, sent_in};
 ghost use Rattle.one_log.specs.Ruled.{rules_of};
 ghost use Rattle.run_world.specs.Lawful.{Lawful};
@@ -42,7 +41,7 @@ ghost use Rattle.member_phases.specs.Frees.{DropsSo, EndsSo, FreeBegun, FreeCut,
 ghost use Rattle.member_phases.specs.Grown.{GrewTo};
 ghost use Rattle.member_phases.specs.Phases.{IsPhase, phase_seen};
 ghost use Rattle.member_phases.specs.Seats.{all_fed, with_seat};
-ghost use Rattle.member_phases.specs.Snapshots.{HasBase, snap_in, snapshot_as};
+ghost use Rattle.member_phases.specs.Snapshots.{snap_in, snapshot_as};
 
 use cl_base::Disk;
 
@@ -78,15 +77,11 @@ pub fn snapshots_are_what_is_due()
         → map snapshot_as (snapshots_of ds (actions_over (outboxes ds) (shape_of log) applied (module_of kinds (events_in (take applied log))) (take (commit - applied) (events_in (drop applied log))))) ≡ map snap_in (due_in (rules_of kinds) log applied commit) }
 {}
 
-/// A phase of a member is a phase in the world: its member stands to its seat after it, and what it sends is what is sent there. So it is where nothing is due, where no snapshot is, and where snapshots are, on a disk whose snapshot entries say where their terms begin in the log.
+/// A phase of a member is a phase in the world: its member stands to its seat after it, with the snapshots that were due on its disk, and what it sends is what is sent there; and so it is where nothing is due.
 pub fn a_phase_is_acts<D: Disk>()
-    ensures plain { (n : ℕ) (kinds : List Kind) (w : RunWorld) (m : ℕ) (u v : UpSeen D) (sent : List Sent) → n ≤ 5 → length kinds ≤ 3 → Lawful n kinds w → IsUp D.state kinds u false (seat w m) → PhaseDone D.state D.tells D.is_honest u v sent
-        → due_in (rules_of kinds) (seat w m).member.durable.log (seat w m).applied (seat w m).member.values.rest.commit ≡ [] → IsPhase D.state kinds m u v sent w }
     ensures still { (n : ℕ) (kinds : List Kind) (w : RunWorld) (m : ℕ) (u : UpSeen D) → n ≤ 5 → length kinds ≤ 3 → Lawful n kinds w → IsUp D.state kinds u false (seat w m) → IsBetween u → commit_of u ≤ u.module_held.consumed → IsPhase D.state kinds m u u [] w }
-    ensures written { (n : ℕ) (kinds : List Kind) (w : RunWorld) (m : ℕ) (u v : UpSeen D) (sent : List Sent) → n ≤ 5 → length kinds ≤ 3 → Lawful n kinds w → IsTrue (D.is_honest u.disk.disk) → Each (HasBase (seat w m).member.durable.log) (snapshots_kept u.disk.kept.entries)
-        → IsUp D.state kinds u false (seat w m) → PhaseDone D.state D.tells D.is_honest u v sent → IsPhase D.state kinds m u v sent w }
-    ensures bases { (n : ℕ) (kinds : List Kind) (w : RunWorld) (m : ℕ) (u v : UpSeen D) (sent : List Sent) → n ≤ 5 → length kinds ≤ 3 → Lawful n kinds w → IsTrue (D.is_honest u.disk.disk) → Each (HasBase (seat w m).member.durable.log) (snapshots_kept u.disk.kept.entries)
-        → IsUp D.state kinds u false (seat w m) → PhaseDone D.state D.tells D.is_honest u v sent → Each (HasBase (seat w m).member.durable.log) (snapshots_kept v.disk.kept.entries) }
+    ensures written { (n : ℕ) (kinds : List Kind) (w : RunWorld) (m : ℕ) (u v : UpSeen D) (sent : List Sent) → n ≤ 5 → length kinds ≤ 3 → Lawful n kinds w → IsTrue (D.is_honest u.disk.disk) → IsUp D.state kinds u false (seat w m)
+        → PhaseDone D.state D.tells D.is_honest u v sent → IsPhase D.state kinds m u v sent w }
 {}
 
 /// What a driver has stands to the world still once a member's phase is over on both sides and its records are sent.
@@ -98,9 +93,9 @@ pub fn a_phase_is_seen<D: Disk>()
 
 /// A phase of a member that a fault of its disk ended, as its snapshots were put, is a phase in the world that a fault cut: what a crash by the seat's choice leaves of the disk stands to the seat of the stopped member, whose services had consumed all that is committed, and nothing is sent. So it is where the fault came between two snapshots, and where it came to one that is in its file or of which no image has the entry.
 pub fn a_cut_phase_is_acts<D: Disk>()
-    ensures between { (n : ℕ) (kinds : List Kind) (w : RunWorld) (m : ℕ) (u v : UpSeen D) (choice : Choice) (ended : List EndedSeen) (d : D) → n ≤ 5 → length kinds ≤ 3 → Lawful n kinds w → IsTrue (D.is_honest u.disk.disk) → Each (HasBase (seat w m).member.durable.log) (snapshots_kept u.disk.kept.entries)
+    ensures between { (n : ℕ) (kinds : List Kind) (w : RunWorld) (m : ℕ) (u v : UpSeen D) (choice : Choice) (ended : List EndedSeen) (d : D) → n ≤ 5 → length kinds ≤ 3 → Lawful n kinds w → IsTrue (D.is_honest u.disk.disk)
         → IsSeat D.state kinds (running_seat choice ended u false) (seat w m) → (p : PhaseCut D.state D.tells D.is_honest u v) → v.disk.disk ≡ p.stopped.until.disk → CrashLeaves choice (D.state v.disk.disk) (D.state d) → IsCutPhase D.state kinds m (stopped_seat ended v false d) w }
-    ensures anywhere { (n : ℕ) (kinds : List Kind) (w : RunWorld) (m : ℕ) (u v : UpSeen D) (choice : Choice) (ended : List EndedSeen) (d : D) → n ≤ 5 → length kinds ≤ 3 → Lawful n kinds w → IsTrue (D.is_honest u.disk.disk) → Each (HasBase (seat w m).member.durable.log) (snapshots_kept u.disk.kept.entries)
+    ensures anywhere { (n : ℕ) (kinds : List Kind) (w : RunWorld) (m : ℕ) (u v : UpSeen D) (choice : Choice) (ended : List EndedSeen) (d : D) → n ≤ 5 → length kinds ≤ 3 → Lawful n kinds w → IsTrue (D.is_honest u.disk.disk)
         → IsSeat D.state kinds (running_seat choice ended u false) (seat w m) → (p : PhaseCut D.state D.tells D.is_honest u v) → HasLastFile D.state D.tells D.is_honest (snapshots_due u v) u.disk v.disk p.stopped → CrashLeaves choice (D.state v.disk.disk) (D.state d)
         → IsCutPhase D.state kinds m (stopped_seat ended v false d) w }
     ensures seen { (kinds : List Kind) (x : RunSeen D) (w : RunWorld) (m : ℕ) (y : SeatSeen D) → Stands D.state kinds x w → (p : IsCutPhase D.state kinds m y w) → Stands D.state kinds (phase_seen m y [] x) (with_seat m p.after w) }
@@ -110,15 +105,13 @@ pub fn a_cut_phase_is_acts<D: Disk>()
 pub fn a_phase_goes_on<D: Disk>()
     ensures begun { (n : ℕ) (kinds : List Kind) (w : RunWorld) (m : ℕ) (u v : UpSeen D) (feeds : List Fed) (jobs : List Served) → n ≤ 5 → length kinds ≤ 3 → Lawful n kinds w → IsUp D.state kinds u false (seat w m) → FreeBegun u v feeds jobs → GoesOnSo D.state kinds m v feeds w }
     ensures fed { (n : ℕ) (kinds : List Kind) (w : RunWorld) (m : ℕ) (u v : UpSeen D) (feeds next : List Fed) → n ≤ 5 → length kinds ≤ 3 → Lawful n kinds w → IsUp D.state kinds u true (seat w m) → PhaseRuns kinds u feeds (seat w m) → FreeFed u v feeds next → GoesOnSo D.state kinds m v next w }
-    ensures ended { (n : ℕ) (kinds : List Kind) (w : RunWorld) (m : ℕ) (u v : UpSeen D) (feeds : List Fed) (sent : List Sent) → n ≤ 5 → length kinds ≤ 3 → Lawful n kinds w → IsTrue (D.is_honest u.disk.disk) → Each (HasBase (seat w m).member.durable.log) (snapshots_kept u.disk.kept.entries)
+    ensures ended { (n : ℕ) (kinds : List Kind) (w : RunWorld) (m : ℕ) (u v : UpSeen D) (feeds : List Fed) (sent : List Sent) → n ≤ 5 → length kinds ≤ 3 → Lawful n kinds w → IsTrue (D.is_honest u.disk.disk)
         → IsUp D.state kinds u true (seat w m) → PhaseRuns kinds u feeds (seat w m) → FreeEnded D.state D.tells D.is_honest u v feeds sent → EndsSo D.state kinds m u v sent w }
-    ensures bases { (n : ℕ) (kinds : List Kind) (w : RunWorld) (m : ℕ) (u v : UpSeen D) (feeds : List Fed) (sent : List Sent) → n ≤ 5 → length kinds ≤ 3 → Lawful n kinds w → IsTrue (D.is_honest u.disk.disk) → Each (HasBase (seat w m).member.durable.log) (snapshots_kept u.disk.kept.entries)
-        → IsUp D.state kinds u true (seat w m) → PhaseRuns kinds u feeds (seat w m) → FreeEnded D.state D.tells D.is_honest u v feeds sent → Each (HasBase (seat w m).member.durable.log) (snapshots_kept v.disk.kept.entries) }
 {}
 
 /// A phase that goes on and that a fault of the disk ends, or that is dropped at a stop, is acts of phases in the world: what a crash by the seat's choice leaves of the disk stands to the seat of the stopped member, whose services had consumed what their containers did, and nothing is sent.
 pub fn a_phase_breaks_off<D: Disk>()
-    ensures cut { (n : ℕ) (kinds : List Kind) (w : RunWorld) (m : ℕ) (u v : UpSeen D) (feeds : List Fed) (choice : Choice) (ended : List EndedSeen) (d : D) → n ≤ 5 → length kinds ≤ 3 → Lawful n kinds w → IsTrue (D.is_honest u.disk.disk) → Each (HasBase (seat w m).member.durable.log) (snapshots_kept u.disk.kept.entries)
+    ensures cut { (n : ℕ) (kinds : List Kind) (w : RunWorld) (m : ℕ) (u v : UpSeen D) (feeds : List Fed) (choice : Choice) (ended : List EndedSeen) (d : D) → n ≤ 5 → length kinds ≤ 3 → Lawful n kinds w → IsTrue (D.is_honest u.disk.disk)
         → IsSeat D.state kinds (running_seat choice ended u true) (seat w m) → PhaseRuns kinds u feeds (seat w m) → (p : FreeCut D.state D.tells D.is_honest u v feeds) → ((r : HaveRising v.lending.kept) → HasLastFile D.state D.tells D.is_honest (snapshots_due u v) u.disk v.disk (p.stopped r))
         → CrashLeaves choice (D.state v.disk.disk) (D.state d) → StopsSo D.state kinds m (stopped_seat ended v false d) w }
     ensures dropped { (n : ℕ) (kinds : List Kind) (w : RunWorld) (m : ℕ) (u x v : UpSeen D) (feeds : List Fed) → n ≤ 5 → length kinds ≤ 3 → Lawful n kinds w → IsUp D.state kinds u true (seat w m) → PhaseRuns kinds u feeds (seat w m) → x.lending ≡ u.lending → x.base ≡ u.base → FreeDropped x v feeds

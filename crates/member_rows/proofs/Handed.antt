@@ -76,7 +76,7 @@ module _ {D : Type 0} (state : D → DiskState) (kinds : List Kind) (u : UpSeen 
   pub duty-ready : length kinds ≤ 3 → now ≤ 2 ^ 60 → AllByRecursion IsSpellable (events_in x.durable.log) → Ready (row_of_duty x (due_at kinds s now) now) x
   duty-ready three early spells = record {
     fits = fits;
-    short = shape-count (row_of_duty x (due_at kinds s now) now) x.durable.log (duty-shorter x.values (shape_of x.durable.log) (due_at kinds s now) now);
+    short = duty-shorter (length x.durable.log) x.values (shape_of x.durable.log) (due_at kinds s now) now;
   }
     where
       over : Log → Row

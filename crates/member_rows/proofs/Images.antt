@@ -5,6 +5,7 @@ use Rattle.cl_base.specs.Images.{IsSound, left_is_image, left_by-settled}
 use Rattle.cl_base.specs.Torn.{settled_image}
 use Rattle.cl_base.specs.declared.disk.Choice.{Choice}
 use Rattle.entry_log.specs.Durable.{Durable, SnapshotEntry}
+use Rattle.entry_log.specs.Log.{Log}
 use Rattle.log_segment.specs.Held.{IsHeld}
 use Rattle.recording_log.specs.declared.entry.RecEntry.{RecEntry}
 use Rattle.node_state.specs.Node.{Node}
@@ -13,8 +14,8 @@ use Rattle.member_disk.specs.CutWell.{IsDurable, snapshots_of}
 use Rattle.consensus_core.specs.declared.change.Change.{Change}
 use Rattle.consensus_core.specs.declared.change.Change.TheVariants as changes
 use Rattle.consensus_core.specs.Member.{changed, changed_log}
-use Rattle.service_phases.specs.Pairs.{Each2}
-use Rattle.run_orders.specs.Kept.{IsStored, IsStateOf, IsMountable}
+use Rattle.service_phases.specs.Pairs.{Each, Each2}
+use Rattle.run_orders.specs.Kept.{HasBase, IsStored, IsStateOf, IsMountable}
 use Rattle.consensus_agent.specs.Disks.{changed_kept}
 
 -- ---- snapshots whose files stay
@@ -111,9 +112,9 @@ module _ (choice : Choice) (old new : DiskState) (crash : CrashLeaves choice old
       settled_image (left_by choice (old.files f)) (c f) here ∙ sym (file-reads f)
 
   -- k is what was kept with the change c made or not made
-  pub durable-left : (c : Change) (k : Kept) (services : ℕ) (was : ℕ → FileState) (d : Durable) → ((g : ℕ) → 258 ≤ g → old.files g ≡ was g) → IsMountable services k → IsHeld (changed_log c k.log) → IsStateOf k was d
+  pub durable-left : (c : Change) (k : Kept) (services : ℕ) (was : ℕ → FileState) (d : Durable) → ((g : ℕ) → 258 ≤ g → old.files g ≡ was g) → IsMountable services k → IsHeld (changed_log c k.log) → Each (HasBase (changed_log c k.log)) (snapshots_of k.entries) → IsStateOf k was d
       → IsDurable (changed_kept c k) (λ f. (new.files f).reads) → IsLeft services (changed c d) new.files
-  durable-left c k services was d same mountable held is dur =
+  durable-left c k services was d same mountable held bases is dur =
       let l : Kept = record { node = (changed_kept c k).node; entries = dur.entries; log = (changed_kept c k).log; services = (changed_kept c k).services } in
       let snaps : snapshots_of dur.entries ≡ snapshots_of k.entries = dur.snapshots ∙ ap snapshots_of (entries-stay c k) in
       let stored : Each2 (IsStored new.files) (snapshots_of dur.entries) d.snapshots =
@@ -121,7 +122,12 @@ module _ (choice : Choice) (old new : DiskState) (crash : CrashLeaves choice old
       (all-stored-left choice old.files new.files crash.files (snapshots_of k.entries) d.snapshots (all-stored-on was old.files same (snapshots_of k.entries) d.snapshots is.snapshots)) in
       record {
         kept = l;
-        mountable = record { count = services-stay c k ∙ mountable.count; held = subst IsHeld (sym (log-changes c k)) held; terms = dur.terms };
+        mountable = record {
+          count = services-stay c k ∙ mountable.count;
+          held = subst IsHeld (sym (log-changes c k)) held;
+          terms = dur.terms;
+          bases = subst (λ (g : Log). Each (HasBase g) (snapshots_of dur.entries)) (sym (log-changes c k)) (subst (Each (HasBase (changed_log c k.log))) (sym snaps) bases);
+        };
         settled = at-rest;
         reads = record { node = dur.node.0; entries = dur.holds; log = dur.log };
         durable = state-after c k l was new.files d refl refl stored is;

@@ -56,12 +56,12 @@ turn_none many (D.RaiseAndRefuse to term) m = tt
 turn_none many (D.Grant to term) m = tt
 
 -- and so does the row
-pub record IsShort (xs : Shape) (row : Row) : Type 0 where
-  pub cut : IsShorter (length xs) row.change
+pub record IsShort (many : ℕ) (row : Row) : Type 0 where
+  pub cut : IsShorter many row.change
 
 module _ (e : Election) (r : Rest) (xs : Shape) where
   abbrev S : Row → Type 0
-  S x = IsShort xs x
+  S x = IsShort (length xs) x
 
   follows_none : (from : ℕ) (t : ℤ) (now : ℕ) → S (follows e r from t now)
   follows_none from t now = record { cut = choice (IsShorter (length xs)) (int_lt e.candidate t) (changes.Raise t None) changes.Nothing (λ h. tt) (λ h. tt) }
@@ -103,21 +103,26 @@ module _ (e : Election) (r : Rest) (xs : Shape) where
   commit_none FollowerReady t c now = choice S (is_in e t) _ _ (λ h. record { cut = tt }) (λ h. record { cut = tt })
   commit_none _ t c now = record { cut = tt }
 
-  status_none : (p : Plan) (now : ℕ) → S (sends_status e r p now)
-  status_none p now = choice S (nat_le e.deadline now) _ _ (λ h. record { cut = tt }) (λ h. choice S (nat_le e.next now) _ _ (λ g. record { cut = tt }) (λ g. record { cut = tt }))
+-- whatever the log's length: a duty cuts nothing
+module _ (many : ℕ) (e : Election) (r : Rest) (xs : Shape) where
+  abbrev U : Row → Type 0
+  U x = IsShort many x
 
-  begins_none : (x : Entry) (now : ℕ) → S (begins_reign e r xs x now)
+  status_none : (p : Plan) (now : ℕ) → U (sends_status e r p now)
+  status_none p now = choice U (nat_le e.deadline now) _ _ (λ h. record { cut = tt }) (λ h. choice U (nat_le e.next now) _ _ (λ g. record { cut = tt }) (λ g. record { cut = tt }))
+
+  begins_none : (x : Entry) (now : ℕ) → U (begins_reign e r xs x now)
   begins_none x now =
-      choice S (nat_lt 16777216 (end_after (end_of xs) (length x.bytes))) (only (enter_canvass e now) r)
+      choice U (nat_lt 16777216 (end_after (end_of xs) (length x.bytes))) (only (enter_canvass e now) r)
       (outcome (record e { state = LeaderReady; next = now + 100 }) (reigning r.commit (end_after (end_of xs) (length x.bytes)) now) (changes.Append (x ∷ [])) (plans.All words.Announcement)) (λ h. record { cut = tt }) (λ h. record { cut = tt })
 
-  reigns_none : (due : Log) (now : ℕ) → S (reigns e r xs due now)
+  reigns_none : (due : Log) (now : ℕ) → U (reigns e r xs due now)
   reigns_none due now =
       let c : ℕ = commit_after e r xs in
       let new : Log = admitted (end_of xs) (end_limit xs c) due in
-      choice S (has_quorum e r now) (beats_next e r c new now) (only (enter_canvass e now) r) (λ h. record { cut = append_none (length xs) new }) (λ h. record { cut = tt })
+      choice U (has_quorum e r now) (beats_next e r c new now) (only (enter_canvass e now) r) (λ h. record { cut = append_none many new }) (λ h. record { cut = tt })
 
-packet_row : (v : Values) (xs : Shape) (p : Packet) (now : ℕ) → IsShort xs (receives_row v xs p now)
+packet_row : (v : Values) (xs : Shape) (p : Packet) (now : ℕ) → IsShort (length xs) (receives_row v xs p now)
 packet_row v xs (P.Canvass log_term log_position candidate_term member) now = canvass_none v.election v.rest xs v.election.state (unsigned_abs member) _ candidate_term now
 packet_row v xs (P.RequestVote log_term log_position candidate_term candidate) now = record { cut = turn_none (length xs) _ _ }
 packet_row v xs (P.Vote candidate_term log_term log_position candidate follower vote) now = record { cut = turn_none (length xs) _ _ }
@@ -128,20 +133,20 @@ packet_row v xs (P.LogBatch term start_position leader entries) now = batch_none
 
 -- of a packet's row
 pub packet-shorter : (v : Values) (xs : Shape) (p : Packet) (now : ℕ) → IsShorter (length xs) (receives v xs p now).change
-packet-shorter v xs p now = (choice (IsShort xs) (is_sendable v xs p) (receives_row v xs p now) (nothing v.election v.rest) (λ h. packet_row v xs p now) (λ h. record { cut = tt })).cut
+packet-shorter v xs p now = (choice (IsShort (length xs)) (is_sendable v xs p) (receives_row v xs p now) (nothing v.election v.rest) (λ h. packet_row v xs p now) (λ h. record { cut = tt })).cut
 
-duty_row_at : (s : State) (v : Values) (xs : Shape) (due : List Event) (now : ℕ) → IsShort xs (duty_at s v xs due now)
-duty_row_at LeaderInit v xs due now = begins_none v.election v.rest xs (entry_of (term_event v.election.term (end_of xs) now v.election.id)) now
-duty_row_at LeaderReady v xs due now = reigns_none v.election v.rest xs (map entry_of due) now
-duty_row_at FollowerReady v xs due now = status_none v.election v.rest xs _ now
-duty_row_at FollowerLogReplication v xs due now = status_none v.election v.rest xs _ now
-duty_row_at Init v xs due now = record { cut = turn_none (length xs) _ _ }
-duty_row_at Canvass v xs due now = record { cut = turn_none (length xs) _ _ }
-duty_row_at Nominate v xs due now = record { cut = turn_none (length xs) _ _ }
-duty_row_at CandidateBallot v xs due now = record { cut = turn_none (length xs) _ _ }
-duty_row_at FollowerBallot v xs due now = record { cut = turn_none (length xs) _ _ }
-duty_row_at Closed v xs due now = record { cut = turn_none (length xs) _ _ }
+duty_row_at : (many : ℕ) (s : State) (v : Values) (xs : Shape) (due : List Event) (now : ℕ) → IsShort many (duty_at s v xs due now)
+duty_row_at many LeaderInit v xs due now = begins_none many v.election v.rest xs (entry_of (term_event v.election.term (end_of xs) now v.election.id)) now
+duty_row_at many LeaderReady v xs due now = reigns_none many v.election v.rest xs (map entry_of due) now
+duty_row_at many FollowerReady v xs due now = status_none many v.election v.rest xs _ now
+duty_row_at many FollowerLogReplication v xs due now = status_none many v.election v.rest xs _ now
+duty_row_at many Init v xs due now = record { cut = turn_none many _ _ }
+duty_row_at many Canvass v xs due now = record { cut = turn_none many _ _ }
+duty_row_at many Nominate v xs due now = record { cut = turn_none many _ _ }
+duty_row_at many CandidateBallot v xs due now = record { cut = turn_none many _ _ }
+duty_row_at many FollowerBallot v xs due now = record { cut = turn_none many _ _ }
+duty_row_at many Closed v xs due now = record { cut = turn_none many _ _ }
 
--- of a duty's
-pub duty-shorter : (v : Values) (xs : Shape) (due : List Event) (now : ℕ) → IsShorter (length xs) (does_duty v xs due now).change
-duty-shorter v xs due now = (duty_row_at v.election.state v xs due now).cut
+-- of a duty's, whatever the log's length
+pub duty-shorter : (many : ℕ) (v : Values) (xs : Shape) (due : List Event) (now : ℕ) → IsShorter many (does_duty v xs due now).change
+duty-shorter many v xs due now = (duty_row_at many v.election.state v xs due now).cut

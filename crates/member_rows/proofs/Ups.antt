@@ -16,7 +16,7 @@ use Rattle.service_api.specs.declared.shipped.Kind.{Kind}
 use Rattle.service_api.specs.Service.{state_of}
 use Rattle.service_container.specs.Held.{Held as ContainerHeld}
 use Rattle.service_container.specs.Records.{records_from}
-use Rattle.service_phases.specs.Pairs.{Each2}
+use Rattle.service_phases.specs.Pairs.{Each, Each2}
 use Rattle.service_phases.specs.Phases.{Lending}
 use Rattle.service_runs.specs.Hosts.{is_over}
 use Rattle.member_disk.specs.CutWell.{snapshots_of}
@@ -31,7 +31,7 @@ use Rattle.consensus_agent.specs.Disks.{IsRight}
 use Rattle.consensus_agent.specs.Sound.{is_cut}
 use Rattle.consensus_agent.specs.Taken.{ahead_after, events_after}
 use Rattle.run_world.specs.Seat.{Seat, Fate, Phase, Goes, phase_after, went_on}
-use Rattle.run_orders.specs.Kept.{IsStored, IsStateOf, IsMountable}
+use Rattle.run_orders.specs.Kept.{HasBase, IsStored, IsStateOf, IsMountable}
 use Rattle.run_orders.specs.Stands.{EndedSeen, HasInput, HaveInputs, IsPhase, IsSeat, IsUp, UpSeen, containers_of, term_led}
 use Rattle.member_rows.specs.Calls.{RowDone}
 use Rattle.member_rows.specs.Places.{ActedWhole, running_seat}
@@ -92,7 +92,7 @@ module _ {D : Type 0} (state : D → DiskState) (is_told is_honest : D → Bool)
   abbrev new : Log
   new = (changed row.change s.member.durable).log
 
-  module _ (up : IsUp state kinds u going s) (honest : IsTrue (is_honest u.disk.disk)) (fits : Fitting row s.member.values log) (short : IsShorter (length log) row.change) (floor : u.base ≤ s.member.values.rest.commit)
+  module _ (up : IsUp state kinds u going s) (honest : IsTrue (is_honest u.disk.disk)) (fits : Fitting row s.member.values log) (short : IsShorter (length log) row.change) (bases : Each (HasBase (changed_log row.change log)) (snapshots_of u.disk.kept.entries)) (floor : u.base ≤ s.member.values.rest.commit)
       (d : RowDone state is_told is_honest row now u v out) where
     same-commit : u.core.values.rest.commit ≡ s.member.values.rest.commit
     same-commit = ap (λ (x : Values). x.rest.commit) up.values
@@ -129,6 +129,7 @@ module _ {D : Type 0} (state : D → DiskState) (is_told is_honest : D → Bool)
       count = d.went.kept.services ∙ up.mountable.count;
       held = subst IsHeld (sym kept-log) (held_after row.change s.applied log (keeps s.applied applied-low) was-held);
       terms = d.went.kept.terms up.mountable.terms;
+      bases = subst (λ (g : Log). Each (HasBase g) (snapshots_of v.disk.kept.entries)) (sym kept-log) (subst (Each (HasBase (changed_log row.change log))) (sym d.went.kept.snapshots) bases);
     }
 
     durable : IsStateOf v.disk.kept (state v.disk.disk).files (changed row.change s.member.durable)

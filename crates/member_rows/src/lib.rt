@@ -33,11 +33,12 @@ pub fn bad_bytes_change_nothing<D: Disk>()
     ensures { (kinds : List Kind) (u v : UpSeen D) (going : Bool) (choice : Choice) (ended : List EndedSeen) (s : Seat) → Unchanged u v → IsSeat D.state kinds (running_seat choice ended u going) s → IsSeat D.state kinds (running_seat choice ended v going) s }
 {}
 
-/// A member that took a packet stands to its seat after the packet's row, and what goes out is what the row sends.
+/// A member that took the network's next packet stands to its seat after the packet's row, and what goes out is what the row sends.
 pub fn a_packet_is_handed<D: Disk>()
-    ensures { (n : ℕ) (kinds : List Kind) (w : RunWorld) (m now : ℕ) (u v : UpSeen D) (going : Bool) (choice : Choice) (ended : List EndedSeen) (bytes : List ℕ) (p : Packet) (out : List Outgoing) → Lawful n kinds w
-        → IsTrue (D.is_honest u.disk.disk) → IsBytes bytes → packet_of bytes ≡ Some p → IsSeat D.state kinds (running_seat choice ended u going) (seat w m) → PacketDone D.state D.tells D.is_honest bytes now u v out
-        → ActedWhole D.state kinds (row_of_packet (seat w m).member p now) now (seat w m) out (running_seat choice ended v going) }
+    ensures { (n : ℕ) (kinds : List Kind) (w : RunWorld) (q : ℕ × Outgoing) (p : Packet) (u v : UpSeen D) (going : Bool) (choice : Choice) (ended : List EndedSeen) (out : List Outgoing) → n ≤ 5 → length kinds ≤ 3 → Lawful n kinds w
+        → first_of (coming w.net) ≡ Some q → IsBytes q.1.bytes → packet_of q.1.bytes ≡ Some p → is_free w q.1.to ≡ true
+        → IsTrue (D.is_honest u.disk.disk) → IsSeat D.state kinds (running_seat choice ended u going) (seat w q.1.to) → PacketDone D.state D.tells D.is_honest q.1.bytes w.now u v out
+        → ActedWhole D.state kinds (row_of_packet (seat w q.1.to).member p w.now) w.now (seat w q.1.to) out (running_seat choice ended v going) }
 {}
 
 /// A member that did its duty stands to its seat after the duty's row, with what is due there, and what goes out is what the row sends.
@@ -47,11 +48,12 @@ pub fn a_duty_is_done<D: Disk>()
         → ActedWhole D.state kinds (row_of_duty (seat w m).member (due_at kinds (seat w m) now) now) now (seat w m) out (running_seat choice ended v going) }
 {}
 
-/// A member under which a packet's row failed stops: what a crash by its choice leaves of its disk stands to its seat after the row, cut before its change or after it.
+/// A member under which the row of the network's next packet failed stops: what a crash by its choice leaves of its disk stands to its seat after the row, cut before its change or after it.
 pub fn a_packet_is_cut<D: Disk>()
-    ensures { (kinds : List Kind) (s : Seat) (now : ℕ) (u v : UpSeen D) (going : Bool) (choice : Choice) (ended : List EndedSeen) (bytes : List ℕ) (p : Packet) (d : D)
-        → IsTrue (D.is_honest u.disk.disk) → IsBytes bytes → packet_of bytes ≡ Some p → IsSeat D.state kinds (running_seat choice ended u going) s → PacketCut D.state D.tells D.is_honest bytes now u v → CrashLeaves choice (D.state v.disk.disk) (D.state d)
-        → ActedCut D.state kinds (row_of_packet s.member p now) now s (stopped_seat ended v going d) }
+    ensures { (n : ℕ) (kinds : List Kind) (w : RunWorld) (q : ℕ × Outgoing) (p : Packet) (u v : UpSeen D) (going : Bool) (choice : Choice) (ended : List EndedSeen) (d : D) → n ≤ 5 → length kinds ≤ 3 → Lawful n kinds w
+        → first_of (coming w.net) ≡ Some q → IsBytes q.1.bytes → packet_of q.1.bytes ≡ Some p → is_free w q.1.to ≡ true
+        → IsTrue (D.is_honest u.disk.disk) → IsSeat D.state kinds (running_seat choice ended u going) (seat w q.1.to) → PacketCut D.state D.tells D.is_honest q.1.bytes w.now u v → CrashLeaves choice (D.state v.disk.disk) (D.state d)
+        → ActedCut D.state kinds (row_of_packet (seat w q.1.to).member p w.now) w.now (seat w q.1.to) (stopped_seat ended v going d) }
 {}
 
 /// A member under which a duty's row failed stops, as under a packet's.

@@ -18,7 +18,7 @@ module _ {D : Type 0} (state : D → DiskState) (kinds : List Kind) (old new : D
   fresh-down : IsFresh (state new).files → IsDown state kinds new first_seat
   fresh-down is = record {
     kept = fresh (length kinds);
-    mountable = record { count = refl; held = none-held; terms = tt };
+    mountable = record { count = refl; held = none-held; terms = tt; bases = tt };
     settled = is.settled;
     reads = record { node = (is.reads (length kinds)).node.0; entries = (is.reads (length kinds)).entries; log = (is.reads (length kinds)).log };
     durable = record { candidate = refl; voted = refl; log = refl; snapshots = tt };

@@ -14,14 +14,14 @@ use Rattle.log_segment.specs.Held.{IsHeld}
 use Rattle.recording_log.specs.declared.entry.RecEntry.{RecEntry}
 use Rattle.service_api.specs.declared.shipped.Kind.{Kind}
 use Rattle.service_container.specs.Held.{Held as ContainerHeld}
-use Rattle.service_phases.specs.Pairs.{Each2}
+use Rattle.service_phases.specs.Pairs.{Each, Each2}
 use Rattle.member_disk.specs.Kept.{Kept}
 use Rattle.member_disk.specs.CutWell.{IsDurable, snapshots_of}
 use Rattle.consensus_core.specs.declared.change.Change.TheVariants as changes
 use Rattle.consensus_core.specs.Member.{Run}
 use Rattle.run_world.specs.Seat.{Seat, rested}
 use Rattle.run_world.specs.RunWorld.{Fails, RunWorld, Stops, does, is_up, put, seat}
-use Rattle.run_orders.specs.Kept.{IsStored, IsStateOf}
+use Rattle.run_orders.specs.Kept.{HasBase, IsStored, IsStateOf}
 use Rattle.run_orders.specs.Stands.{EndedSeen, HaveInputs, IsDown, IsEnded, IsSeat, IsUp, RunSeen, Stands, UpSeen, containers_of, parts_of, seen_put}
 use Rattle.run_orders.proofs.Standing.{put-stands}
 use Rattle.member_rows.specs.Places.{stopped_seat, run_ended, running_seat}
@@ -30,11 +30,12 @@ use Rattle.member_rows.proofs.Images.{IsLeft, durable-left, left-image}
 -- ---- what a crash leaves, of a disk an image of which is durable so
 
 module _ (choice : Choice) (old new : DiskState) (crash : CrashLeaves choice old new) (sound : (f : ℕ) → IsSound (old.files f)) where
-  pub kept-left : (k : Kept) (services : ℕ) (was : ℕ → FileState) (d : Durable) → ((g : ℕ) → 258 ≤ g → old.files g ≡ was g) → k.services ≡ services → IsHeld k.log → IsStateOf k was d
+  pub kept-left : (k : Kept) (services : ℕ) (was : ℕ → FileState) (d : Durable) → ((g : ℕ) → 258 ≤ g → old.files g ≡ was g) → k.services ≡ services → IsHeld k.log → Each (HasBase k.log) (snapshots_of k.entries) → IsStateOf k was d
       → IsDurable k (λ f. (new.files f).reads) → IsLeft services d new.files
-  kept-left k services was d same count held is dur =
+  kept-left k services was d same count held bases is dur =
       let l : Kept = record { node = k.node; entries = dur.entries; log = k.log; services = k.services } in
-      durable-left choice old new crash sound changes.Nothing l services was d same (record { count = count; held = held; terms = dur.terms }) held
+      let there : Each (HasBase k.log) (snapshots_of dur.entries) = subst (Each (HasBase k.log)) (sym dur.snapshots) bases in
+      durable-left choice old new crash sound changes.Nothing l services was d same (record { count = count; held = held; terms = dur.terms; bases = there }) held there
       (record { candidate = is.candidate; voted = is.voted; log = is.log; snapshots = subst (λ (es : List RecEntry). Each2 (IsStored was) es d.snapshots) (sym dur.snapshots) is.snapshots })
       (record { node = dur.node; entries = dur.entries; holds = dur.holds; snapshots = refl; terms = dur.terms; log = dur.log })
 
@@ -96,7 +97,7 @@ module _ {D : Type 0} (state : D → DiskState) (kinds : List Kind) (u : UpSeen 
     is-left : IsLeft (length kinds) s.member.durable (state d).files
     is-left =
         let there = up.each image image-there in
-        kept-left left (state e) (state d) crash sound-there u.disk.kept (length kinds) (state u.disk.disk).files s.member.durable (λ g high. same g) up.mountable.count up.mountable.held up.durable
+        kept-left left (state e) (state d) crash sound-there u.disk.kept (length kinds) (state u.disk.disk).files s.member.durable (λ g high. same g) up.mountable.count up.mountable.held up.mountable.bases up.durable
         (record { node = there.node; entries = u.disk.kept.entries; holds = there.entries; snapshots = refl; terms = up.mountable.terms; log = there.log })
 
     is-down : (own : ℕ) → IsDown state kinds d (rested own s)

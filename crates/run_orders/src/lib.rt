@@ -1,21 +1,27 @@
 //! The orders of a scenario as acts of the world of a run; and that what is promised of every list of acts holds of every run of orders.
 #![tactic(auto)]
 
-ghost use Rattle.std.specs.Prelude.{◌≡◌, ◌≤◌, ℕ, Bool, true, false, List, Some, length};
+ghost use Rattle.std.specs.Prelude.{◌≡◌, ◌≤◌, ◌++◌, ℕ, Bool, true, false, List, Some, length, take};
 ghost use Rattle.cl_base.specs.Disk.{CrashLeaves, IsImage};
 ghost use Rattle.cl_base.specs.declared.disk.Choice.{Choice};
 ghost use Rattle.cl_base.specs.declared.disk.Choice.TheVariants.{Keep};
 ghost use Rattle.commit_counter.specs.Ends.{Fed};
 ghost use Rattle.commit_counter.specs.declared.role.Role.{Role};
 ghost use Rattle.consensus_core.specs.Member.{Sent as Packet};
+ghost use Rattle.entry_log.specs.Durable.{SnapshotEntry};
+ghost use Rattle.entry_log.specs.Log.{Log};
 ghost use Rattle.member_module.specs.Held.{Held as ModuleHeld, at_end};
 ghost use Rattle.module_state.specs.Due.{due};
+ghost use Rattle.recording_log.specs.declared.entry.RecEntry.{RecEntry};
 ghost use Rattle.service_api.specs.declared.shipped.Kind.{Kind};
+ghost use Rattle.service_phases.specs.Pairs.{Each};
 ghost use Rattle.service_runs.specs.Hosts.{role_of};
 ghost use Rattle.scenario.specs.declared.order.Order.{Order};
 ghost use Rattle.run_world.specs.Headline.{Headline};
-ghost use Rattle.run_world.specs.RunWorld.{RunWorld, committed, due_at, first_world, put, view_at};
+ghost use Rattle.run_world.specs.Lawful.{Lawful};
+ghost use Rattle.run_world.specs.RunWorld.{RunWorld, committed, due_at, first_world, put, seat, view_at};
 ghost use Rattle.run_world.specs.Seat.{Seat, fused, opened, rested};
+ghost use Rattle.run_orders.specs.Kept.{Begins, HasBase};
 ghost use Rattle.run_orders.specs.Orders.{Course, GotTo, Ran, Step};
 ghost use Rattle.run_orders.specs.Phases.{Leads};
 ghost use Rattle.run_orders.specs.Stands.{HasModule, IsDown, IsSeat, IsUp, RunSeen, SeatSeen, Stands, UpSeen, disk_of, seen_put, term_led, with_disk, with_phase};
@@ -61,4 +67,11 @@ pub fn a_stop_rests<D: Disk>()
 /// What a driver has of a member stands to a world still once a phase of it begins on both sides.
 pub fn a_phase_begins<D: Disk>()
     ensures { (kinds : List Kind) (u : UpSeen D) (s : Seat) (role : Role) (feeds : List Fed) → term_led role ≡ role_of s.member → IsUp D.state kinds u false s → IsUp D.state kinds (with_phase role feeds u) true (opened s) }
+{}
+
+/// The entry of a snapshot says where its term begins in a log still once entries are added, and once the log is cut behind that place; and in a lawful world the term of each snapshot begins in its member's log.
+pub fn bases_stay()
+    ensures added { (log more : Log) (e : RecEntry) → HasBase log e → HasBase (log ++ more) e }
+    ensures cut { (log : Log) (n : ℕ) (e : RecEntry) → HasBase log e → Begins e.term (take n log) → HasBase (take n log) e }
+    ensures lawful { (n : ℕ) (kinds : List Kind) (w : RunWorld) (m : ℕ) → n ≤ 5 → length kinds ≤ 3 → Lawful n kinds w → Each (λ (s : SnapshotEntry). Begins s.term (seat w m).member.durable.log) (seat w m).member.durable.snapshots }
 {}
