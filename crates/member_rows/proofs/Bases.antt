@@ -18,7 +18,7 @@ use Rattle.run_world.specs.Lawful.{Lawful}
 use Rattle.run_world.specs.RunWorld.{Hands, RunWorld, does, is_free, seat}
 use Rattle.run_world.specs.Seat.{Fate, Seat, acted, becomes, first_seat, reigns_from}
 use Rattle.run_world.proofs.Acts.{act-lifts}
-use Rattle.run_world.proofs.Rows.{becomes-member, free-parts, reigns-member}
+use Rattle.run_world.proofs.Rows.{becomes-member, free-parts}
 use Rattle.run_orders.specs.Kept.{Begins, HasBase, IsStored}
 use Rattle.run_orders.proofs.Bases.{all-front, all-more}
 use Rattle.run_orders.proofs.Begun.{snapshots-begin}

@@ -26,6 +26,28 @@ both true true false a b c = absurd (cc)
 both true false c a b e = absurd (cc)
 both false b c a e f = absurd (cc)
 
+-- ---- what an act is
+
+-- the world once the network's next packet was taken
+abbrev pub without : RunWorld → RunWorld
+without w = with_net (taken w.net) w
+
+module _ (kinds : List Kind) where
+  pub duty-is : (w : RunWorld) (m : ℕ) → is_free w m ≡ true → (f : Fate) → does kinds w (Duty m f) ≡ row_at m (row_of_duty (seat w m).member (due_at kinds (seat w m) w.now) w.now) f w
+  duty-is w m free f = ap (λ (b : Bool). if b then row_at m (row_of_duty (seat w m).member (due_at kinds (seat w m) w.now) w.now) f w else w) free
+
+  hands-is : (w : RunWorld) (q : ℕ × Outgoing) (o : Option Packet) → first_of (coming w.net) ≡ Some q → packet_of q.1.bytes ≡ o → (f : Fate) → does kinds w (Hands f) ≡ takes_packet q.1.to o f (without w)
+  hands-is w q o first read f = ap (λ (z : Option (ℕ × Outgoing)). handed z f (without w)) first ∙ ap (λ (z : Option Packet). takes_packet q.1.to z f (without w)) read
+
+  pub packet-is : (w : RunWorld) (q : ℕ × Outgoing) (p : Packet) → first_of (coming w.net) ≡ Some q → packet_of q.1.bytes ≡ Some p → is_free w q.1.to ≡ true
+      → (f : Fate) → does kinds w (Hands f) ≡ row_at q.1.to (row_of_packet (seat w q.1.to).member p w.now) f (without w)
+  packet-is w q p first read free f =
+      hands-is w q (Some p) first read f ∙ ap (λ (b : Bool). if b then row_at q.1.to (row_of_packet (seat w q.1.to).member p w.now) f (without w) else without w) free
+
+  lost-is : (w : RunWorld) (q : ℕ × Outgoing) (o : Option Packet) (f : Fate) → is_free w q.1.to ≡ false → takes_packet q.1.to o f (without w) ≡ without w
+  lost-is w q None f lost = refl
+  lost-is w q (Some p) f lost = ap (λ (b : Bool). if b then row_at q.1.to (row_of_packet (seat w q.1.to).member p w.now) f (without w) else without w) lost
+
 module _ {D : Type 0} (state : D → DiskState) (kinds : List Kind) where
   lets : (going over : Bool) (u : UpSeen D) (p : Phase) → IsPhase going u.role over p → (going && over) ≡ false → lets_calls p ≡ true
   lets true true u p is free = absurd (cc)
@@ -70,34 +92,14 @@ module _ {D : Type 0} (state : D → DiskState) (kinds : List Kind) where
       stands = there a.fate (stopped_seat ended v going disk) [] a.seat (ap committed a.seat.home.member);
     }
 
-  -- ---- a duty
-
-  pub duty-is : (w : RunWorld) (m : ℕ) → is_free w m ≡ true → (f : Fate) → does kinds w (Duty m f) ≡ row_at m (row_of_duty (seat w m).member (due_at kinds (seat w m) w.now) w.now) f w
-  duty-is w m free f = ap (λ (b : Bool). if b then row_at m (row_of_duty (seat w m).member (due_at kinds (seat w m) w.now) w.now) f w else w) free
-
   -- ---- a packet
-
-  abbrev pub without : RunWorld → RunWorld
-  without w = with_net (taken w.net) w
 
   pub taken-stands : (x : RunSeen D) (w : RunWorld) → Stands state kinds x w → Stands state kinds (seen_taken x) (without w)
   taken-stands x w s = record { now = s.now; seats = s.seats; net = ap taken s.net; records = s.records; printed = s.printed }
 
-  hands-is : (w : RunWorld) (q : ℕ × Outgoing) (o : Option Packet) → first_of (coming w.net) ≡ Some q → packet_of q.1.bytes ≡ o → (f : Fate) → does kinds w (Hands f) ≡ takes_packet q.1.to o f (without w)
-  hands-is w q o first read f = ap (λ (z : Option (ℕ × Outgoing)). handed z f (without w)) first ∙ ap (λ (z : Option Packet). takes_packet q.1.to z f (without w)) read
-
-  pub packet-is : (w : RunWorld) (q : ℕ × Outgoing) (p : Packet) → first_of (coming w.net) ≡ Some q → packet_of q.1.bytes ≡ Some p → is_free w q.1.to ≡ true
-      → (f : Fate) → does kinds w (Hands f) ≡ row_at q.1.to (row_of_packet (seat w q.1.to).member p w.now) f (without w)
-  packet-is w q p first read free f =
-      hands-is w q (Some p) first read f ∙ ap (λ (b : Bool). if b then row_at q.1.to (row_of_packet (seat w q.1.to).member p w.now) f (without w) else without w) free
-
   pub none-stands : (x : RunSeen D) (w : RunWorld) (q : ℕ × Outgoing) (f : Fate) → first_of (coming w.net) ≡ Some q → packet_of q.1.bytes ≡ None → Stands state kinds x w → Stands state kinds (seen_taken x) (does kinds w (Hands f))
-  none-stands x w q f first read s = subst (Stands state kinds (seen_taken x)) (sym (hands-is w q None first read f)) (taken-stands x w s)
-
-  lost-is : (w : RunWorld) (q : ℕ × Outgoing) (o : Option Packet) (f : Fate) → is_free w q.1.to ≡ false → takes_packet q.1.to o f (without w) ≡ without w
-  lost-is w q None f lost = refl
-  lost-is w q (Some p) f lost = ap (λ (b : Bool). if b then row_at q.1.to (row_of_packet (seat w q.1.to).member p w.now) f (without w) else without w) lost
+  none-stands x w q f first read s = subst (Stands state kinds (seen_taken x)) (sym (hands-is kinds w q None first read f)) (taken-stands x w s)
 
   pub lost-stands : (x : RunSeen D) (w : RunWorld) (q : ℕ × Outgoing) (f : Fate) → first_of (coming w.net) ≡ Some q → is_free w q.1.to ≡ false → Stands state kinds x w → Stands state kinds (seen_taken x) (does kinds w (Hands f))
   lost-stands x w q f first lost s =
-      subst (Stands state kinds (seen_taken x)) (sym (hands-is w q (packet_of q.1.bytes) first refl f ∙ lost-is w q (packet_of q.1.bytes) f lost)) (taken-stands x w s)
+      subst (Stands state kinds (seen_taken x)) (sym (hands-is kinds w q (packet_of q.1.bytes) first refl f ∙ lost-is kinds w q (packet_of q.1.bytes) f lost)) (taken-stands x w s)
