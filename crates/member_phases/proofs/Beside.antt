@@ -1,7 +1,7 @@
 -- A phase that goes on, beside the calls of its member.
 use Rattle.std.proofs.Common.{◌≡◌, ◌⊎◌, inl, inr, ℕ, ◌≤◌, Bool, true, false, ◌&&◌, ◌||◌, List, [], ◌++◌, length, map, take, refl, sym, ap, ◌∙◌, subst, arith, if◌then◌else◌}
 use Rattle.std.specs.Prelude.{not}
-use Rattle.std.proofs.lemmas.List.{append-nil}
+use Rattle.std.proofs.lemmas.List.{append-nil, take-append-le}
 use Rattle.cl_base.specs.Disk.{DiskState}
 use Rattle.commit_counter.specs.Ends.{Fed}
 use Rattle.entry_log.specs.Log.{Log}
@@ -71,6 +71,20 @@ module _ {D : Type 0} (kinds : List Kind) (u v : UpSeen D) (feeds : List Fed) (s
           (each2_weaker (FeedHolds old (commit_of u)) (FeedHolds new (commit_of v)) (holds-on old new (commit_of u) (commit_of v) d.rises d.front) u.lending.begun feeds runs.holds.fed);
     };
   }
+
+-- ---- a call that put entries behind the log, if any
+
+pub more-beside : {D : Type 0} (u v : UpSeen D) (s t : Seat) (more : Log) → v.lending ≡ u.lending → v.module_held.consumed ≡ u.module_held.consumed → t.applied ≡ s.applied → t.run ≡ s.run → commit_of u ≤ commit_of v → commit_of u ≤ length s.member.durable.log
+    → t.member.durable.log ≡ s.member.durable.log ++ more → v.over ≡ u.over → StaysBeside u v s t
+more-beside {D} u v s t more lending consumed applied run rises low log over = record {
+  lending = lending;
+  consumed = consumed;
+  applied = applied;
+  run = run;
+  rises = rises;
+  front = ap (take (commit_of u)) log ∙ take-append-le (commit_of u) s.member.durable.log more low;
+  grows = λ on. (sym over ∙ on, (more, log));
+}
 
 -- ---- a row of the member
 

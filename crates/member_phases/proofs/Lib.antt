@@ -28,3 +28,5 @@ pub mod Fed
 pub mod Begun
 pub mod Dropped
 pub mod Beside
+pub mod Courses
+pub mod Taken

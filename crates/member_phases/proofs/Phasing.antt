@@ -1,5 +1,5 @@
 -- The end of a phase that goes on, as acts of phases.
-use Rattle.std.proofs.Common.{◌≡◌, ℕ, true, List, [], ◌∷◌, ◌++◌, Option, Some, None, refl, sym, ◌∙◌}
+use Rattle.std.proofs.Common.{◌≡◌, ℕ, true, List, [], ◌∷◌, ◌++◌, Option, Some, None, refl, sym, ap, ◌∙◌}
 use Rattle.std.specs.List.{AllByRecursion}
 use Rattle.service_api.specs.declared.shipped.Kind.{Kind}
 use Rattle.run_world.specs.Rounds.{consume, phase_over, put_all}
@@ -44,4 +44,16 @@ ends-act kinds m ks fates fails w v is = record {
   acts = consume m ks ++ over_acts m fates fails;
   phases = both-of (consume m ks) (over_acts m fates fails) (takes-of m ks) (over-of m fates fails);
   becomes = is ∙ sym (over-is kinds m fates fails (after_acts kinds w (consume m ks))) ∙ sym (acts-append kinds w (consume m ks) (over_acts m fates fails));
+}
+
+-- ---- one after the other
+
+pub none-act : (kinds : List Kind) (w : RunWorld) → PhasesAct kinds w w
+none-act kinds w = record { acts = []; phases = tt; becomes = refl }
+
+pub both-act : (kinds : List Kind) (u v w : RunWorld) → PhasesAct kinds u v → PhasesAct kinds v w → PhasesAct kinds u w
+both-act kinds u v w a b = record {
+  acts = a.acts ++ b.acts;
+  phases = both-of a.acts b.acts a.phases b.phases;
+  becomes = b.becomes ∙ ap (λ (z : RunWorld). after_acts kinds z b.acts) a.becomes ∙ sym (acts-append kinds u a.acts b.acts);
 }

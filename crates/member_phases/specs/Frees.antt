@@ -22,7 +22,7 @@ use Rattle.run_world.specs.Seat.{Seat}
 use Rattle.run_world.specs.RunWorld.{RunWorld, seat, with_records}
 use Rattle.run_orders.specs.Kept.{HasFaults}
 use Rattle.run_orders.specs.Phases.{PhasesAct}
-use Rattle.run_orders.specs.Stands.{IsEnded, IsRecord, IsSeat, IsUp, SeatSeen, UpSeen}
+use Rattle.run_orders.specs.Stands.{Down, HomeSeen, IsEnded, IsRecord, IsSeat, IsUp, SeatSeen, Up, UpSeen}
 use Rattle.member_rows.specs.Calls.{GoesOn as MemberGoesOn}
 use Rattle.member_rows.specs.Places.{run_ended}
 use Rattle.member_phases.specs.Calls.{IsBetween, behind, commit_of, snapshots_due, stage_of}
@@ -124,6 +124,18 @@ pub record StaysBeside {D : Type 0} (u v : UpSeen D) (s t : Seat) : Type 0 where
 -- each service has consumed this
 abbrev pub with_consumed : List Log → Seat → Seat
 with_consumed inputs s = record s { run = record s.run { inputs = inputs } }
+
+-- a member's place: it is stopped, or in a phase that goes on and is not over
+abbrev pub IsOn : {D : Type 0} → HomeSeen D → Type 0
+IsOn (Up u true) = u.over ≡ false
+IsOn (Up u false) = ⊥
+IsOn (Down disk) = ⊤
+
+-- or it is stopped, or between two phases
+abbrev pub IsOff : {D : Type 0} → HomeSeen D → Type 0
+IsOff (Up u true) = ⊥
+IsOff (Up u false) = ⊤
+IsOff (Down disk) = ⊤
 
 module _ {D : Type 0} (state : D → DiskState) (kinds : List Kind) where
   -- acts of phases lead from one world to another in which member m stands to its seat with a phase that goes on, and all else is as it was

@@ -6,12 +6,15 @@ use Rattle.member_rows.proofs.Bytes.{read-spells}
 use Rattle.member_rows.proofs.Handed.{duty-ready, duty-same, log-spelled, packet-ready, packet-same}
 use Rattle.run_world.specs.RunWorld.{due_at, seat}
 use Rattle.consensus_core.specs.Member.{row_of_duty, row_of_packet}
-use Rattle.member_phases.proofs.Beside.{dropped-acted, dropped-halted, goes-beside, row-beside}
+use Rattle.member_phases.proofs.Beside.{dropped-acted, dropped-halted, goes-beside, more-beside, row-beside}
 use Rattle.member_phases.proofs.Worlds.{commit-low}
 use Rattle.member_phases.proofs.a_phase_goes_on_beside_rows.Goals as goal
 
 pub returns-clause-beside : goal.returns-clause-beside
 returns-clause-beside g c kinds u v feeds s t runs d = goes-beside kinds u v feeds s t runs d
+
+pub returns-clause-appended : goal.returns-clause-appended
+returns-clause-appended g c u v s t more lending consumed applied run rises low log over = more-beside u v s t more lending consumed applied run rises low log over
 
 pub returns-clause-packet : goal.returns-clause-packet
 returns-clause-packet g c n kinds w m now u v bytes p out f lawful fits read up done whole =
