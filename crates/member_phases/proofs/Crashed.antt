@@ -83,7 +83,7 @@ module _ (kinds : List Kind) (log : Log) (few : length kinds ≤ 3) (formed : Is
   image f = ((state disk).files f).reads
 
   left-kept : (k : Kept) (d : Durable) → IsMountable (length kinds) k → IsStateOf k (state b.disk).files d → IsDurable k image → Left d
-  left-kept k d mountable is dur = durable-left choice (state b.disk) (state disk) crash sound changes.Nothing k (length kinds) (state b.disk).files d (λ g high. refl) mountable mountable.held is dur
+  left-kept k d mountable is dur = durable-left choice (state b.disk) (state disk) crash sound changes.Nothing k (length kinds) (state b.disk).files d (λ g high. refl) mountable mountable.held mountable.bases is dur
 
   -- ---- a disk that stands for what is kept
 
@@ -166,7 +166,7 @@ module _ (kinds : List Kind) (log : Log) (few : length kinds ≤ 3) (formed : Is
           count = k.count;
           held = k.held;
           terms = terms_front a.kept.entries (entry ∷ []) (new_terms 0 a.kept.log) k.right.terms;
-          bases = subst (λ (l : Log). Each (HasBase l) (snapshots_of put-kept.entries)) (sym k.same_log) (subst (Each (HasBase log)) (sym more) (each-on (HasBase log) (snapshots_of a.kept.entries) entry k.bases put-base));
+          bases = subst (λ (l : Log). Each (HasBase l) (snapshots_of put-kept.entries)) (sym k.same_log) (subst (Each (HasBase log)) (sym more) (each-on kinds log few formed (HasBase log) (snapshots_of a.kept.entries) entry k.bases put-base));
         }
 
         put-state : (state b.disk).files (258 + s.head.recording) ≡ settled_file (spelled s.pieces) → IsStateOf put-kept (state b.disk).files (record d { snapshots = put_in e d.snapshots })

@@ -122,7 +122,7 @@ module _ {D : Type 0} (state : D → DiskState) (kinds : List Kind) (n : ℕ) (w
       let home : IsUp state kinds u true s = is.home in
       let stands : Stands u.disk.kept (λ f. ((state disk).files f).reads) = subst (λ (h : DiskHeld D). Stands h.kept (λ f. ((state disk).files f).reads)) same (each-now (λ f. ((state disk).files f).reads) (left-image choice old (state disk) crash sound)) in
       let left : IsLeft (length kinds) s.member.durable (state disk).files =
-      durable-left choice old (state disk) crash sound changes.Nothing u.disk.kept (length kinds) (state u.disk.disk).files s.member.durable (λ g high. ap (λ (h : DiskHeld D). (state h.disk).files g) same) home.mountable home.mountable.held home.durable
+      durable-left choice old (state disk) crash sound changes.Nothing u.disk.kept (length kinds) (state u.disk.disk).files s.member.durable (λ g high. ap (λ (h : DiskHeld D). (state h.disk).files g) same) home.mountable home.mountable.held home.mountable.bases home.durable
       (record { node = stands.node; entries = u.disk.kept.entries; holds = stands.entries; snapshots = refl; terms = home.mountable.terms; log = stands.log }) in
       subst (λ (k : ℕ). IsSeat state kinds (stopped_seat ended v false disk) (rested k (with_consumed p.inputs s))) (ap (λ (h : DiskHeld D). (state h.disk).own_faults) same ∙ sym is.faults.own)
       (rested-stands state kinds choice v false ended disk crash s.member.durable (with_consumed p.inputs s) left p.ended is.ended)

@@ -15,7 +15,7 @@ ghost use Rattle.run_orders.specs.Stands.{AreRecords, EndedSeen, HaveInputs, IsE
 ghost use Rattle.service_api.specs.declared.shipped.Kind.{Kind};
 ghost use Rattle.service_container.specs.Held.{Held};
 ghost use Rattle.service_container.specs.declared.container.Served.{Served};
-ghost use Rattle.service_phases.specs.Pairs.{Each2};
+ghost use Rattle.service_phases.specs.Pairs.{Each, Each2};
 ghost use Rattle.service_runs.specs.Hosts.{Output, due_in, sent_in};
 ghost use Rattle.one_log.specs.Ruled.{rules_of};
 ghost use Rattle.run_world.specs.Lawful.{Lawful};
