@@ -25,7 +25,6 @@ use Rattle.run_orders.specs.Stands.{EndedSeen, IsEnded, IsSeat, IsUp, UpSeen, te
 use Rattle.member_rows.specs.Places.{running_seat, stopped_seat}
 use Rattle.member_rows.proofs.Images.{IsLeft, durable-left, left-image}
 use Rattle.member_phases.specs.Calls.{commit_of, snapshots_due, stage_of}
-use Rattle.member_phases.specs.Cuts.{HasLastFile}
 use Rattle.member_phases.specs.Frees.{DropsSo, FreeCut, FreeDropped, PhaseRuns, StopsSo, with_consumed}
 use Rattle.member_phases.specs.Seats.{all_fed, with_seat}
 use Rattle.member_phases.specs.Snapshots.{all_put}
@@ -34,7 +33,7 @@ use Rattle.member_phases.proofs.Ended.{entries-at, same-commit, within}
 use Rattle.member_phases.proofs.Fed.{some-taken}
 use Rattle.member_phases.proofs.Freed.{Became, all-of, became}
 use Rattle.member_phases.proofs.Grown.{grown}
-use Rattle.member_phases.proofs.Halting.{CutHere, here-anywhere, seat-stops, still-honest}
+use Rattle.member_phases.proofs.Halting.{CutHere, cut-here, seat-stops, still-honest}
 use Rattle.member_phases.proofs.Lent.{all-further, consumed_by}
 use Rattle.member_phases.proofs.Phased.{inputs-count}
 use Rattle.member_phases.proofs.Phasing.{ends-act, takes-act}
@@ -83,9 +82,8 @@ module _ {D : Type 0} (state : D → DiskState) (is_told is_honest : D → Bool)
         seat = seat-stops state is_told is_honest kinds n w m five three lawful u v true choice ended disk is z.cs z.xss z.grows z.count d.base st honest told sound crash c;
       }
 
-  pub free-cut : ((r : HaveRising v.lending.kept) → HasLastFile state is_told is_honest (snapshots_due u v) u.disk v.disk (d.stopped r)) → StopsSo state kinds m (stopped_seat ended v false disk) w
-  unfolding st
-  free-cut file = stops (here-anywhere state is_told is_honest kinds n w m five three lawful u v true choice ended disk is z.cs z.xss z.grows z.count d.base st honest told sound crash (file rising))
+  pub free-cut : StopsSo state kinds m (stopped_seat ended v false disk) w
+  free-cut = stops (cut-here state is_told is_honest kinds n w m five three lawful u v true choice ended disk is z.cs z.xss z.grows z.count d.base st honest told sound crash)
 
 -- ---- it was dropped
 

@@ -22,11 +22,10 @@ use Rattle.run_orders.specs.Kept.{HasBase}
 use Rattle.run_orders.specs.Stands.{EndedSeen, HaveInputs, IsSeat, IsUp, UpSeen}
 use Rattle.member_rows.specs.Places.{running_seat, stopped_seat}
 use Rattle.member_phases.specs.Calls.{commit_of, snapshots_due}
-use Rattle.member_phases.specs.Cuts.{HasLastFile}
 use Rattle.member_phases.specs.Grown.{GrewTo}
 use Rattle.member_phases.specs.Seats.{all_fed}
 use Rattle.member_phases.specs.Snapshots.{all_put}
-use Rattle.member_phases.proofs.Crashed.{IsCutAt, between, cut-at}
+use Rattle.member_phases.proofs.Crashed.{IsCutAt, cut-at}
 use Rattle.member_phases.proofs.Ended.{all-inputs, formed, snapshots-are}
 use Rattle.member_phases.proofs.Rested.{stopped-stands}
 use Rattle.member_phases.proofs.Written.{Keeps, dues-named, snaps-named}
@@ -82,13 +81,9 @@ module _ {D : Type 0} (state : D → DiskState) (is_told is_honest : D → Bool)
   abbrev pub CutHere : Type 0
   CutHere = IsCutAt kinds past three (formed state kinds n w m five three lawful u going up) state is_told is_honest choice v.disk disk sound crash dues s.member
 
-  pub here-between : v.disk.disk ≡ st.until.disk → CutHere
-  here-between same = between kinds past three (formed state kinds n w m five three lawful u going up) state is_told is_honest choice v.disk disk sound crash dues (snapshots_due u v) u.disk s.member
-      (snapshots-are state kinds n w m five three lawful u going up v cs xss g count) (dues-named kinds past s.applied s.member.values.rest.commit) (up-keeps state is_told is_honest kinds n w m five three lawful u going up honest told) st same
-
-  pub here-anywhere : HasLastFile state is_told is_honest (snapshots_due u v) u.disk v.disk st → CutHere
-  here-anywhere file = cut-at kinds past three (formed state kinds n w m five three lawful u going up) state is_told is_honest choice v.disk disk sound crash dues (snapshots_due u v) u.disk s.member
-      (snapshots-are state kinds n w m five three lawful u going up v cs xss g count) (dues-named kinds past s.applied s.member.values.rest.commit) (up-keeps state is_told is_honest kinds n w m five three lawful u going up honest told) st file
+  pub cut-here : CutHere
+  cut-here = cut-at kinds past three (formed state kinds n w m five three lawful u going up) state is_told is_honest choice v.disk disk sound crash dues (snapshots_due u v) u.disk s.member
+      (snapshots-are state kinds n w m five three lawful u going up v cs xss g count) (dues-named kinds past s.applied s.member.values.rest.commit) (up-keeps state is_told is_honest kinds n w m five three lawful u going up honest told) st
 
   pub seat-stops : (c : CutHere) → IsSeat state kinds (stopped_seat ended v false disk) (halted (stopped (all_put c.due s.member).durable) (state v.disk.disk).own_faults (all_fed s))
   seat-stops c = stopped-stands state kinds choice v false ended disk crash (all_put c.due s.member).durable (all_fed s) past c.left (base ∙ up.first) (let b = up.within in omega (arith, base, b)) inputs is.ended

@@ -17,14 +17,14 @@ use Rattle.run_world.specs.RunWorld.{RunWorld, seat}
 use Rattle.run_orders.specs.Stands.{EndedSeen, IsSeat, IsUp, UpSeen}
 use Rattle.member_rows.specs.Places.{running_seat, stopped_seat}
 use Rattle.member_phases.specs.Calls.{PhaseCut, commit_of, snapshots_due}
-use Rattle.member_phases.specs.Cuts.{HasLastFile, IsCutPhase}
+use Rattle.member_phases.specs.Cuts.{IsCutPhase}
 use Rattle.member_phases.specs.Grown.{GrewTo}
 use Rattle.member_phases.specs.Seats.{all_fed}
 use Rattle.member_phases.specs.Snapshots.{all_put}
 use Rattle.member_phases.proofs.Acts.{stopped-at}
 use Rattle.member_phases.proofs.Ended.{commit-within, entries-at, same-commit, within}
 use Rattle.member_phases.proofs.Ending.{feeds, taken}
-use Rattle.member_phases.proofs.Halting.{CutHere, here-anywhere, here-between, seat-stops}
+use Rattle.member_phases.proofs.Halting.{CutHere, cut-here, seat-stops}
 use Rattle.member_phases.proofs.Phased.{all-within, inputs-count}
 use Rattle.member_phases.proofs.Takes.{each-front}
 use Rattle.member_phases.proofs.Worlds.{IsFront, inputs-front, printed-all, seat-there, up-there}
@@ -90,8 +90,5 @@ module _ {D : Type 0} (state : D → DiskState) (is_told is_honest : D → Bool)
         seat = seat-stops state is_told is_honest kinds n w m five three lawful u v false choice ended disk is u.lending.kept s.run.inputs grows refl d.base d.stopped honest told sound crash c;
       }
 
-  pub cut-between : v.disk.disk ≡ d.stopped.until.disk → IsCutPhase state kinds m (stopped_seat ended v false disk) w
-  cut-between here = cut-phase (here-between state is_told is_honest kinds n w m five three lawful u v false choice ended disk is u.lending.kept s.run.inputs grows refl d.base d.stopped honest told sound crash here)
-
-  pub cut-anywhere : HasLastFile state is_told is_honest (snapshots_due u v) u.disk v.disk d.stopped → IsCutPhase state kinds m (stopped_seat ended v false disk) w
-  cut-anywhere file = cut-phase (here-anywhere state is_told is_honest kinds n w m five three lawful u v false choice ended disk is u.lending.kept s.run.inputs grows refl d.base d.stopped honest told sound crash file)
+  pub phase-cut : IsCutPhase state kinds m (stopped_seat ended v false disk) w
+  phase-cut = cut-phase (cut-here state is_told is_honest kinds n w m five three lawful u v false choice ended disk is u.lending.kept s.run.inputs grows refl d.base d.stopped honest told sound crash)
