@@ -16,7 +16,7 @@ use Rattle.run_world.specs.Seat.{Seat, halted, is_resting, opened}
 use Rattle.run_world.specs.RunWorld.{RunWorld, seat}
 use Rattle.run_orders.specs.Stands.{EndedSeen, IsSeat, IsUp, UpSeen}
 use Rattle.member_rows.specs.Places.{running_seat, stopped_seat}
-use Rattle.member_phases.specs.Calls.{PhaseCut, commit_of, snapshots_due}
+use Rattle.member_phases.specs.Calls.{PhaseCut, commit_of}
 use Rattle.member_phases.specs.Cuts.{IsCutPhase}
 use Rattle.member_phases.specs.Grown.{GrewTo}
 use Rattle.member_phases.specs.Seats.{all_fed}
