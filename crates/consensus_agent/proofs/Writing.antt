@@ -1,5 +1,5 @@
 -- What writing snapshots leaves of a member's disk.
-use Rattle.std.proofs.Common.{◌≡◌, inl, inr, ℕ, zero, suc, ◌+◌, ◌≤◌, pos, Bool, IsTrue, List, [], ◌∷◌, ◌++◌, take, Option, Some, refl, sym, ap, subst, ◌∙◌, append_assoc, arith, add-one, add-zero}
+use Rattle.std.proofs.Common.{◌≡◌, ◌⊎◌, inl, inr, ℕ, zero, suc, ◌+◌, ◌≤◌, pos, Bool, IsTrue, List, [], ◌∷◌, ◌++◌, take, Option, Some, refl, sym, ap, subst, ◌∙◌, append_assoc, arith, add-one, add-zero}
 use Rattle.std.specs.Prelude.{Result, Ok, Err, OnOk, OnErr, slice_get}
 use Rattle.std.proofs.lemmas.List.{append-nil}
 use Rattle.cl_base.specs.Disk.{DiskState, settled_file}
@@ -127,9 +127,10 @@ module _ {D : Type 0} (state : D → DiskState) (moment : D → ℕ) (left_since
 
   pub put_stopped : {T : Type 0} (s : Snapshot) (a b : DiskHeld D) (result : Result T MemberFault) → is_told b.disk ≡ is_told a.disk → is_honest b.disk ≡ is_honest a.disk
       → OnErr result (b.kept ≡ a.kept) → (IsThereIn s a.kept → b.disk ≡ a.disk) → CutSo s.head a b
+      → (IsTrue (is_honest a.disk) → EachStands a.kept (state a.disk).files → (IsThereIn s a.kept → ⊥) → OnErr result (EachStands a.kept (state b.disk).files ⊎ ((state b.disk).files (258 + s.head.recording) ≡ settled_file (spelled s.pieces))))
       → OnErr result (StoppedAmong state is_told is_honest (s ∷ []) a b)
-  put_stopped s a b (Ok x) tells honest kept again cut = tt
-  put_stopped s a b (Err e) tells honest kept again cut = record {
+  put_stopped s a b (Ok x) tells honest kept again cut filed = tt
+  put_stopped s a b (Err e) tells honest kept again cut filed = record {
     written = [];
     rest = s ∷ [];
     all = refl;
@@ -146,6 +147,7 @@ module _ {D : Type 0} (state : D → DiskState) (moment : D → ℕ) (left_since
         again = again;
         each = λ right n. (cut right.honest right.each right.terms n).each;
         others = others_of s a b again cut;
+        filed = λ right n. filed right.honest right.each n;
       },
     );
   }

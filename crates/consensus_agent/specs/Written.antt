@@ -10,7 +10,7 @@ use Rattle.sbe_events.specs.declared.event.Event.TheVariants as events
 use Rattle.member_disk.specs.declared.durable.SnapshotHead.{SnapshotHead}
 use Rattle.member_disk.specs.Changes.{IsPut, entry_for}
 use Rattle.member_disk.specs.CutWell.{IsDurableOne}
-use Rattle.member_disk.specs.Kept.{Kept, Held as DiskHeld}
+use Rattle.member_disk.specs.Kept.{EachStands, Kept, Held as DiskHeld}
 use Rattle.member_disk.specs.Parts.{put_part}
 use Rattle.module_state.specs.Module.{Module}
 use Rattle.module_state.specs.Restored.{records_of}
@@ -115,7 +115,7 @@ module _ {D : Type 0} (state : D → DiskState) (is_told is_honest : D → Bool)
   AreWritten [] a b = b ≡ a
   AreWritten (s ∷ ss) a b = (m : DiskHeld D) × IsWritten s a m × AreWritten ss m b
 
-  -- a fault came while a snapshot was put: each image is durable as before or as after it
+  -- a fault came while a snapshot was put: each image is durable as before or as after it; and the snapshot is in its file, or each image stands for what was kept
   pub record IsCutOff (s : Snapshot) (a b : DiskHeld D) : Type 0 where
     pub tells : is_told b.disk ≡ is_told a.disk
     pub honest : is_honest b.disk ≡ is_honest a.disk
@@ -123,6 +123,7 @@ module _ {D : Type 0} (state : D → DiskState) (is_told is_honest : D → Bool)
     pub again : IsThereIn s a.kept → b.disk ≡ a.disk
     pub each : IsRight state is_told is_honest a → (IsThereIn s a.kept → ⊥) → EachImage (IsDurableOne a.kept (put_part a.kept s.head).makes) (state b.disk).files
     pub others : IsRight state is_told is_honest a → (g : ℕ) → 258 ≤ g → (g ≡ 258 + s.head.recording → ⊥) → (state b.disk).files g ≡ (state a.disk).files g
+    pub filed : IsRight state is_told is_honest a → (IsThereIn s a.kept → ⊥) → EachStands a.kept (state b.disk).files ⊎ ((state b.disk).files (258 + s.head.recording) ≡ settled_file (spelled s.pieces))
 
   -- a fault came after some of these were put, or while the next one was
   pub record StoppedAmong (ss : List Snapshot) (a b : DiskHeld D) : Type 0 where

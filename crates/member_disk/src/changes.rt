@@ -1,5 +1,5 @@
 // The changes of what a member keeps.
-ghost use Rattle.std.specs.Prelude.{◌≡◌, ◌≢◌, ◌+◌, ◌<◌, ◌≤◌, ◌^◌, ◌++◌, ◌∷◌, [], ◌↔◌, ℕ, pos, ◌<ℤ◌, ◌≤ℤ◌, All, IsTrue, IsFalse, IfOk, IfErr, IfSome, OnOk, OnErr, Err, Some, length, take};
+ghost use Rattle.std.specs.Prelude.{◌≡◌, ◌⊎◌, ◌≢◌, ◌+◌, ◌<◌, ◌≤◌, ◌^◌, ◌++◌, ◌∷◌, [], ◌↔◌, ℕ, pos, ◌<ℤ◌, ◌≤ℤ◌, All, IsTrue, IsFalse, IfOk, IfErr, IfSome, OnOk, OnErr, Err, Some, length, take};
 ghost use Rattle.cl_base.specs.Faults.{HasDeviceCause};
 ghost use Rattle.cl_base.specs.Disk.{OthersStay, settled_file};
 ghost use Rattle.entry_log.specs.Log.{RisesFrom, last, place, place_from};
@@ -239,6 +239,7 @@ impl Durable {
             → IsCutWell D.state D.moment D.left_since (file_of head.recording) self.old (put_part self.old head).makes disk.old disk.new }
         ensures made { IsTrue (D.is_honest disk.old) → EachStands self.old (D.state disk.old).files → (IsThere (entry_for self.old head) self.old.entries → ⊥)
             → IsMade D.state D.moment D.left_since (put_part self.old head ∷ []) self.old disk.old disk.new result }
+        ensures filed { IsTrue (D.is_honest disk.old) → EachStands self.old (D.state disk.old).files → (IsThere (entry_for self.old head) self.old.entries → ⊥) → OnErr result (EachStands self.old (D.state disk.new).files ⊎ ((D.state disk.new).files (258 + head.recording) ≡ settled_file (spelled pieces.now))) }
         ensures again { IsThere (entry_for self.old head) self.old.entries → disk.new ≡ disk.old }
     {
         if self.recording.has_entry(self.entry_for(head)) {

@@ -27,7 +27,7 @@ impl<D: Disk> Model for MemberDisk<D> {
 }
 
 impl<D: Disk> MemberDisk<D> {
-    ghost use Rattle.std.specs.Prelude.{◌≡◌, ◌≢◌, ◌+◌, ◌<◌, ◌≤◌, ◌^◌, ◌++◌, ◌∷◌, [], ◌↔◌, ℕ, pos, ◌<ℤ◌, ◌≤ℤ◌, All, IsTrue, IsFalse, IfOk, IfErr, IfSome, OnOk, OnErr, Ok, Err, MatchResult, Some, length, take};
+    ghost use Rattle.std.specs.Prelude.{◌≡◌, ◌≢◌, ◌⊎◌, ◌+◌, ◌<◌, ◌≤◌, ◌^◌, ◌++◌, ◌∷◌, [], ◌↔◌, ℕ, pos, ◌<ℤ◌, ◌≤ℤ◌, All, IsTrue, IsFalse, IfOk, IfErr, IfSome, OnOk, OnErr, Ok, Err, MatchResult, Some, length, take};
     ghost use Rattle.cl_base.specs.Counts.{Rose};
     ghost use Rattle.cl_base.specs.Faults.{HasDeviceCause, HasMountCause, IsNoLogFull};
     ghost use Rattle.cl_base.specs.Disk.{LeavesOnly, OthersStay, IsImageOf, settled_file};
@@ -204,6 +204,9 @@ impl<D: Disk> MemberDisk<D> {
         ensures made { IsTrue (D.is_honest self.old.disk) → EachStands self.old.kept (D.state self.old.disk).files → (IsThere (entry_for self.old.kept head) self.old.kept.entries → ⊥)
             → IsMade D.state D.moment D.left_since (put_part self.old.kept head ∷ []) self.old.kept self.old.disk self.new.disk result }
         ensures again { IsThere (entry_for self.old.kept head) self.old.kept.entries → self.new.disk ≡ self.old.disk }
+        // Where it fails the snapshot is in its file, or each image of the disk stands for what was kept.
+        ensures filed { IsTrue (D.is_honest self.old.disk) → EachStands self.old.kept (D.state self.old.disk).files → (IsThere (entry_for self.old.kept head) self.old.kept.entries → ⊥)
+            → OnErr result (EachStands self.old.kept (D.state self.new.disk).files ⊎ ((D.state self.new.disk).files (258 + head.recording) ≡ settled_file (spelled pieces.now))) }
         // Whatever the answer, and whenever a crash comes, a mount finds the state before or the one after.
         ensures cut_well { IsTrue (D.is_honest self.old.disk) → EachStands self.old.kept (D.state self.old.disk).files → HaveTerms self.old.kept.entries (new_terms 0 self.old.kept.log) → (IsThere (entry_for self.old.kept head) self.old.kept.entries → ⊥)
             → IsCutWell D.state D.moment D.left_since (file_of head.recording) self.old.kept (put_part self.old.kept head).makes self.old.disk self.new.disk }

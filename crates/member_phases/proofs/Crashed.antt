@@ -1,5 +1,5 @@
 -- What a crash leaves of the disk of a member under which a phase's writes failed.
-use Rattle.std.proofs.Common.{◌≡◌, ◌⊎◌, inl, inr, ℕ, ◌+◌, ◌≤◌, pos, Bool, true, false, ◌&&◌, List, [], ◌∷◌, ◌++◌, length, map, Some, refl, sym, ap, ◌∙◌, subst, if◌then◌else◌}
+use Rattle.std.proofs.Common.{◌≡◌, ◌⊎◌, inl, inr, ℕ, ◌+◌, ◌≤◌, ℤ, pos, Bool, true, false, ◌&&◌, List, [], ◌∷◌, ◌++◌, length, map, Some, refl, sym, ap, ◌∙◌, subst, if◌then◌else◌}
 use Rattle.std.specs.Prelude.{nat_eq}
 use Rattle.std.specs.List.{list_any}
 use Rattle.std.proofs.lemmas.List.{append_assoc}
@@ -29,13 +29,12 @@ use Rattle.module_state.specs.Entries.{IsWellFormedOn}
 use Rattle.service_api.specs.declared.shipped.Kind.{Kind}
 use Rattle.service_phases.specs.Pairs.{Each, Each2}
 use Rattle.service_runs.specs.Hosts.{Due}
-use Rattle.run_orders.specs.Kept.{HasBase, IsMountable, IsStateOf, IsStored}
+use Rattle.run_orders.specs.Kept.{Begins, HasBase, IsMountable, IsStateOf, IsStored}
 use Rattle.member_rows.proofs.Images.{IsLeft, durable-left, left-image}
-use Rattle.member_phases.specs.Cuts.{HasFile, HasLastFile}
 use Rattle.member_phases.specs.Snapshots.{all_put, snap_in, snapshot_as}
 use Rattle.member_phases.proofs.Owed.{each-append}
 use Rattle.member_phases.proofs.Puts.{NamedIn, counts, named-head, there-any}
-use Rattle.member_phases.proofs.Written.{Keeps, all-kept, each-on, entry-base, nat-same, others-stored}
+use Rattle.member_phases.proofs.Written.{Keeps, all-kept, each-on, nat-same, others-stored}
 
 -- ---- of the snapshots that are due, those that were written and those behind them
 
@@ -91,12 +90,16 @@ module _ (kinds : List Kind) (log : Log) (few : length kinds ≤ 3) (formed : Is
     may-mount : IsMountable (length kinds) a.kept
     may-mount = record { count = k.count; held = k.held; terms = k.right.terms; bases = subst (λ (l : Log). Each (HasBase l) (snapshots_of a.kept.entries)) (sym k.same_log) k.bases }
 
+    durable-now : EachStands a.kept (state b.disk).files → IsDurable a.kept image
+    durable-now each =
+        let stands : Stands a.kept image = each image (left-image choice (state b.disk) (state disk) crash sound) in
+        record { node = stands.node; entries = a.kept.entries; holds = stands.entries; snapshots = refl; terms = k.right.terms; log = stands.log }
+
     -- the disk is as it was
     same-left : b.disk ≡ a.disk → Left d
     same-left same =
         let each : EachStands a.kept (state b.disk).files = subst (λ (z : D). EachStands a.kept (state z).files) (sym same) k.right.each in
-        let stands : Stands a.kept image = each image (left-image choice (state b.disk) (state disk) crash sound) in
-        left-kept a.kept d may-mount (subst (λ (z : D). IsStateOf a.kept (state z).files d) (sym same) k.durable) (record { node = stands.node; entries = a.kept.entries; holds = stands.entries; snapshots = refl; terms = k.right.terms; log = stands.log })
+        left-kept a.kept d may-mount (subst (λ (z : D). IsStateOf a.kept (state z).files d) (sym same) k.durable) (durable-now each)
 
     -- ---- a snapshot that a fault came to
 
@@ -148,18 +151,25 @@ module _ (kinds : List Kind) (log : Log) (few : length kinds ≤ 3) (formed : Is
         old-state : IsStateOf a.kept (state b.disk).files d
         old-state = record { candidate = k.durable.candidate; voted = k.durable.voted; log = k.durable.log; snapshots = old }
 
-        abbrev put-kept : Kept
-        put-kept = (put_part a.kept s.head).makes
-
+        -- with its entry behind the others
         more : snapshots_of (a.kept.entries ++ entry ∷ []) ≡ snapshots_of a.kept.entries ++ entry ∷ []
         more = filter-append is_put a.kept.entries (entry ∷ []) ∙ ap (λ (x : Bool). snapshots_of a.kept.entries ++ (if x then entry ∷ [] else [])) valid
+
+        put-base : HasBase log entry
+        put-base = record {
+          begins = subst (λ (t : ℤ). Begins t log) (sym (ap (λ (q : SnapshotEntry). q.term) name.6)) (k.begin name.0 name.1 name.3);
+          base = ap (λ (l : Log). pos (base_of s.head.term (new_terms 0 l))) k.same_log;
+        }
+
+        abbrev put-kept : Kept
+        put-kept = (put_part a.kept s.head).makes
 
         put-mounts : IsMountable (length kinds) put-kept
         put-mounts = record {
           count = k.count;
           held = k.held;
           terms = terms_front a.kept.entries (entry ∷ []) (new_terms 0 a.kept.log) k.right.terms;
-          bases = subst (λ (l : Log). Each (HasBase l) (snapshots_of put-kept.entries)) (sym k.same_log) (subst (Each (HasBase log)) (sym more) (each-on kinds log few formed (HasBase log) (snapshots_of a.kept.entries) entry k.bases (entry-base kinds log few formed state is_told is_honest s a d name k)));
+          bases = subst (λ (l : Log). Each (HasBase l) (snapshots_of put-kept.entries)) (sym k.same_log) (subst (Each (HasBase log)) (sym more) (each-on kinds log few formed (HasBase log) (snapshots_of a.kept.entries) entry k.bases put-base));
         }
 
         put-state : (state b.disk).files (258 + s.head.recording) ≡ settled_file (spelled s.pieces) → IsStateOf put-kept (state b.disk).files (record d { snapshots = put_in e d.snapshots })
@@ -175,15 +185,15 @@ module _ (kinds : List Kind) (log : Log) (few : length kinds ≤ 3) (formed : Is
               snapshots = subst (λ (l : List RecEntry). Each2 (IsStored files) l (put_in e d.snapshots)) (sym more) (subst (λ (l : List SnapshotEntry). Each2 (IsStored files) (snapshots_of a.kept.entries ++ entry ∷ []) l) (sym put) all);
             }
 
-        by-image : HasFile state is_told is_honest s a b → IsDurableOne a.kept put-kept image → Either
+        by-image : EachStands a.kept (state b.disk).files ⊎ ((state b.disk).files (258 + s.head.recording) ≡ settled_file (spelled s.pieces)) → IsDurableOne a.kept put-kept image → Either
         by-image file (inl dur) = inl (left-kept a.kept d may-mount old-state dur)
-        by-image (inl before) (inr dur) = inl (left-kept a.kept d may-mount old-state (before image (left-image choice (state b.disk) (state disk) crash sound)))
+        by-image (inl before) (inr dur) = inl (left-kept a.kept d may-mount old-state (durable-now before))
         by-image (inr stored) (inr dur) = inr (left-kept put-kept (record d { snapshots = put_in e d.snapshots }) put-mounts (put-state stored) dur)
 
-      cut-left : ((IsThereIn s a.kept → ⊥) → HasFile state is_told is_honest s a b) → Either
-      cut-left file = elim (there_either entry a.kept.entries) [
+      cut-left : Either
+      cut-left = elim (there_either entry a.kept.entries) [
         | inl there ↦ inl (same-left (off.again there))
-        | inr new ↦ by-image new (file new) (off.each k.right new image (left-image choice (state b.disk) (state disk) crash sound))
+        | inr new ↦ by-image new (off.filed k.right new) (off.each k.right new image (left-image choice (state b.disk) (state disk) crash sound))
       ]
 
   -- ---- all of them
@@ -206,10 +216,10 @@ module _ (kinds : List Kind) (log : Log) (few : length kinds ≤ 3) (formed : Is
     until : Keeps kinds log few formed state is_told is_honest st.until (all_put parts.due x).durable
     until = all-kept kinds log few formed state is_told is_honest parts.due st.written a st.until x parts.front (each-left (λ (z : Due). NamedIn kinds log z.snap) parts.due parts.more all-named) k st.done
 
-    pub between : b.disk ≡ st.until.disk → IsCutAt dues x
+    between : b.disk ≡ st.until.disk → IsCutAt dues x
     between is = record { due = parts.due; more = parts.more; all = parts.all; left = same-left st.until (all_put parts.due x).durable until is }
 
-    module _ (s : Snapshot) (off : IsCutOff state is_told is_honest s st.until b) (file : (IsThereIn s st.until.kept → ⊥) → HasFile state is_told is_honest s st.until b) where
+    module _ (s : Snapshot) (off : IsCutOff state is_told is_honest s st.until b) where
       during : (rest : List Snapshot) (more : List Due) → parts.more ≡ more → map snapshot_as (s ∷ rest) ≡ map snap_in more → IsCutAt dues x
       during rest [] e behind = absurd (cc)
       during rest (d ∷ more) e behind =
@@ -218,7 +228,7 @@ module _ (kinds : List Kind) (log : Log) (few : length kinds ≤ 3) (formed : Is
           let name : NamedIn kinds log (snapshot_as s) = subst (NamedIn kinds log) (sym head) names.0 in
           let y = all_put parts.due x in
           let all : dues ≡ parts.due ++ d ∷ more = parts.all ∙ ap (λ (l : List Due). parts.due ++ l) e in
-          elim (cut-left st.until y.durable until s name off file) [
+          elim (cut-left st.until y.durable until s name off) [
             | inl before ↦ record { due = parts.due; more = d ∷ more; all = all; left = before }
             | inr after ↦ record {
               due = parts.due ++ d ∷ [];
@@ -228,8 +238,8 @@ module _ (kinds : List Kind) (log : Log) (few : length kinds ≤ 3) (formed : Is
             }
           ]
 
-    pub cut-at : HasLastFile state is_told is_honest ss a b st → IsCutAt dues x
-    cut-at file = elim st.last [
+    pub cut-at : IsCutAt dues x
+    cut-at = elim st.last [
       | inl is ↦ between (ap (λ (h : DiskHeld D). h.disk) is)
-      | inr z ↦ during z.0 z.3 (file z.0 z.1 z.2 until.right z.3) z.1 parts.more refl (ap (λ (l : List Snapshot). map snapshot_as l) (sym z.2) ∙ parts.behind)
+      | inr z ↦ during z.0 z.3 z.1 parts.more refl (ap (λ (l : List Snapshot). map snapshot_as l) (sym z.2) ∙ parts.behind)
     ]

@@ -6,7 +6,6 @@ use Rattle.cl_base.specs.Images.{IsSound}
 use Rattle.cl_base.specs.declared.disk.Choice.{Choice}
 use Rattle.commit_counter.specs.Ends.{Fed}
 use Rattle.entry_log.specs.Log.{Log}
-use Rattle.member_disk.specs.CutWell.{snapshots_of as snapshots_kept}
 use Rattle.member_disk.specs.Kept.{EachStands, Held as DiskHeld, Stands}
 use Rattle.service_api.specs.declared.shipped.Kind.{Kind}
 use Rattle.service_container.specs.Held.{Held}
@@ -26,17 +25,15 @@ use Rattle.run_orders.specs.Stands.{EndedSeen, IsEnded, IsSeat, IsUp, UpSeen, te
 use Rattle.member_rows.specs.Places.{running_seat, stopped_seat}
 use Rattle.member_rows.proofs.Images.{IsLeft, durable-left, left-image}
 use Rattle.member_phases.specs.Calls.{commit_of, snapshots_due, stage_of}
-use Rattle.member_phases.specs.Cuts.{HasLastFile}
 use Rattle.member_phases.specs.Frees.{DropsSo, FreeCut, FreeDropped, PhaseRuns, StopsSo, with_consumed}
 use Rattle.member_phases.specs.Seats.{all_fed, with_seat}
-use Rattle.run_orders.specs.Kept.{HasBase}
 use Rattle.member_phases.specs.Snapshots.{all_put}
 use Rattle.member_phases.proofs.Acts.{stopped-at, there-up}
 use Rattle.member_phases.proofs.Ended.{entries-at, same-commit, within}
 use Rattle.member_phases.proofs.Fed.{some-taken}
 use Rattle.member_phases.proofs.Freed.{Became, all-of, became}
 use Rattle.member_phases.proofs.Grown.{grown}
-use Rattle.member_phases.proofs.Halting.{CutHere, here-anywhere, seat-stops, still-honest}
+use Rattle.member_phases.proofs.Halting.{CutHere, cut-here, seat-stops, still-honest}
 use Rattle.member_phases.proofs.Lent.{all-further, consumed_by}
 use Rattle.member_phases.proofs.Phased.{inputs-count}
 use Rattle.member_phases.proofs.Phasing.{ends-act, takes-act}
@@ -49,7 +46,7 @@ use Rattle.member_phases.proofs.Written.{each-has}
 
 module _ {D : Type 0} (state : D → DiskState) (is_told is_honest : D → Bool) (kinds : List Kind) (n : ℕ) (w : RunWorld) (m : ℕ) (five : n ≤ 5) (three : length kinds ≤ 3) (lawful : Lawful n kinds w) (u v : UpSeen D) (feeds : List Fed) (choice : Choice) (ended : List EndedSeen) (disk : D)
     (is : IsSeat state kinds (running_seat choice ended u true) (seat w m)) (runs : PhaseRuns kinds u feeds (seat w m)) (d : FreeCut state is_told is_honest u v feeds) (honest : IsTrue (is_honest u.disk.disk)) (told : IsTrue (is_told u.disk.disk))
-    (bases : Each (HasBase (seat w m).member.durable.log) (snapshots_kept u.disk.kept.entries)) (is_sound : IsTrue (is_honest v.disk.disk) → (f : ℕ) → IsSound ((state v.disk.disk).files f)) (crash : CrashLeaves choice (state v.disk.disk) (state disk)) where
+    (is_sound : IsTrue (is_honest v.disk.disk) → (f : ℕ) → IsSound ((state v.disk.disk).files f)) (crash : CrashLeaves choice (state v.disk.disk) (state disk)) where
   abbrev s : Seat
   s = seat w m
 
@@ -72,7 +69,7 @@ module _ {D : Type 0} (state : D → DiskState) (is_told is_honest : D → Bool)
   sound = is_sound (still-honest state is_told is_honest (snapshots_due u v) u.disk v.disk st honest)
 
   abbrev Cut : Type 0
-  Cut = CutHere state is_told is_honest kinds n w m five three lawful u v true choice ended disk is z.cs z.xss z.grows z.count d.base st honest told bases sound crash
+  Cut = CutHere state is_told is_honest kinds n w m five three lawful u v true choice ended disk is z.cs z.xss z.grows z.count d.base st honest told sound crash
 
   stops : Cut → StopsSo state kinds m (stopped_seat ended v false disk) w
   stops c =
@@ -82,12 +79,11 @@ module _ {D : Type 0} (state : D → DiskState) (is_told is_honest : D → Bool)
       record {
         after = halted (stopped (all_put c.due s.member).durable) own (all_fed s);
         acted = ends-act kinds m fed.0 over.0 over.1 w _ (sym (ap (λ (x : RunWorld). phase_over kinds m over.0 over.1 x) fed.1 ∙ over.2));
-        seat = seat-stops state is_told is_honest kinds n w m five three lawful u v true choice ended disk is z.cs z.xss z.grows z.count d.base st honest told bases sound crash c;
+        seat = seat-stops state is_told is_honest kinds n w m five three lawful u v true choice ended disk is z.cs z.xss z.grows z.count d.base st honest told sound crash c;
       }
 
-  pub free-cut : ((r : HaveRising v.lending.kept) → HasLastFile state is_told is_honest (snapshots_due u v) u.disk v.disk (d.stopped r)) → StopsSo state kinds m (stopped_seat ended v false disk) w
-  unfolding st
-  free-cut file = stops (here-anywhere state is_told is_honest kinds n w m five three lawful u v true choice ended disk is z.cs z.xss z.grows z.count d.base st honest told bases sound crash (file rising))
+  pub free-cut : StopsSo state kinds m (stopped_seat ended v false disk) w
+  free-cut = stops (cut-here state is_told is_honest kinds n w m five three lawful u v true choice ended disk is z.cs z.xss z.grows z.count d.base st honest told sound crash)
 
 -- ---- it was dropped
 

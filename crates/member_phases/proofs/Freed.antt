@@ -116,7 +116,7 @@ module _ {D : Type 0} (state : D → DiskState) (is_told is_honest : D → Bool)
 
 module _ {D : Type 0} (state : D → DiskState) (is_told is_honest : D → Bool) (kinds : List Kind) (n : ℕ) (w : RunWorld) (m : ℕ) (five : n ≤ 5) (three : length kinds ≤ 3) (lawful : Lawful n kinds w) (u v : UpSeen D) (feeds : List Fed) (sent : List Sent)
     (up : IsUp state kinds u true (seat w m)) (runs : PhaseRuns kinds u feeds (seat w m)) (d : FreeEnded state is_told is_honest u v feeds sent)
-    (honest : IsTrue (is_honest u.disk.disk)) (told : IsTrue (is_told u.disk.disk)) (bases : Each (HasBase (seat w m).member.durable.log) (snapshots_kept u.disk.kept.entries)) where
+    (honest : IsTrue (is_honest u.disk.disk)) (told : IsTrue (is_told u.disk.disk)) where
   abbrev s : Seat
   s = seat w m
 
@@ -203,7 +203,7 @@ module _ {D : Type 0} (state : D → DiskState) (is_told is_honest : D → Bool)
 
   kept-on : Keeps kinds past three (formed state kinds n w m five three lawful u true up) state is_told is_honest v.disk (all_put dues s.member).durable
   kept-on = all-kept kinds past three (formed state kinds n w m five three lawful u true up) state is_told is_honest dues (snapshots_due u v) u.disk v.disk s.member snaps (dues-named kinds past s.applied commit)
-      (up-keeps state is_told is_honest kinds n w m five three lawful u true up honest told bases) (d.written rising)
+      (up-keeps state is_told is_honest kinds n w m five three lawful u true up honest told) (d.written rising)
 
   abbrev fate : Fate
   fate = record { cut = Whole; lets = (state v.disk.disk).lets; own = (state v.disk.disk).own_faults }

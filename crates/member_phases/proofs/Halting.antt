@@ -17,18 +17,17 @@ use Rattle.one_log.specs.Ruled.{rules_of}
 use Rattle.run_world.specs.Lawful.{Lawful}
 use Rattle.run_world.specs.Seat.{Seat, halted}
 use Rattle.run_world.specs.RunWorld.{RunWorld, seat}
+use Rattle.run_orders.proofs.Begun.{entries-begin}
+use Rattle.run_orders.specs.Kept.{HasBase}
 use Rattle.run_orders.specs.Stands.{EndedSeen, HaveInputs, IsSeat, IsUp, UpSeen}
 use Rattle.member_rows.specs.Places.{running_seat, stopped_seat}
 use Rattle.member_phases.specs.Calls.{commit_of, snapshots_due}
-use Rattle.member_phases.specs.Cuts.{HasLastFile}
 use Rattle.member_phases.specs.Grown.{GrewTo}
 use Rattle.member_phases.specs.Seats.{all_fed}
-use Rattle.run_orders.specs.Kept.{HasBase}
 use Rattle.member_phases.specs.Snapshots.{all_put}
-use Rattle.member_phases.proofs.Crashed.{IsCutAt, between, cut-at}
+use Rattle.member_phases.proofs.Crashed.{IsCutAt, cut-at}
 use Rattle.member_phases.proofs.Ended.{all-inputs, formed, snapshots-are}
 use Rattle.member_phases.proofs.Rested.{stopped-stands}
-use Rattle.run_orders.proofs.Begun.{entries-begin}
 use Rattle.member_phases.proofs.Written.{Keeps, dues-named, snaps-named}
 
 -- a disk stays honest
@@ -46,23 +45,23 @@ still-honest {D} state is_told is_honest ss a b st honest =
 
 -- the disk of a running member stands for what its seat keeps
 pub up-keeps : {D : Type 0} (state : D → DiskState) (is_told is_honest : D → Bool) (kinds : List Kind) (n : ℕ) (w : RunWorld) (m : ℕ) (five : n ≤ 5) (three : length kinds ≤ 3) (lawful : Lawful n kinds w) (u : UpSeen D) (going : Bool) (up : IsUp state kinds u going (seat w m))
-    → IsTrue (is_honest u.disk.disk) → IsTrue (is_told u.disk.disk) → Each (HasBase (seat w m).member.durable.log) (snapshots_kept u.disk.kept.entries)
+    → IsTrue (is_honest u.disk.disk) → IsTrue (is_told u.disk.disk)
     → Keeps kinds (seat w m).member.durable.log three (formed state kinds n w m five three lawful u going up) state is_told is_honest u.disk (seat w m).member.durable
-up-keeps {D} state is_told is_honest kinds n w m five three lawful u going up honest told bases = record {
+up-keeps {D} state is_told is_honest kinds n w m five three lawful u going up honest told = record {
   right = record { honest = honest; each = up.each; terms = up.mountable.terms };
   told = told;
   count = up.mountable.count;
   held = up.mountable.held;
   same_log = sym up.durable.log;
   durable = up.durable;
-  bases = bases;
+  bases = subst (λ (l : Log). Each (HasBase l) (snapshots_kept u.disk.kept.entries)) (sym up.durable.log) up.mountable.bases;
   named = snaps-named n kinds w m lawful;
   begin = entries-begin n kinds w m five three lawful;
 }
 
 module _ {D : Type 0} (state : D → DiskState) (is_told is_honest : D → Bool) (kinds : List Kind) (n : ℕ) (w : RunWorld) (m : ℕ) (five : n ≤ 5) (three : length kinds ≤ 3) (lawful : Lawful n kinds w) (u v : UpSeen D) (going : Bool) (choice : Choice) (ended : List EndedSeen) (disk : D)
     (is : IsSeat state kinds (running_seat choice ended u going) (seat w m)) (cs : List Held) (xss : List Log) (g : GrewTo kinds (seat w m).member.durable.log u.base u.module_held.consumed (commit_of u) cs v.lending.kept xss) (count : length xss ≡ length (seat w m).run.inputs) (base : v.base ≡ u.base)
-    (st : StoppedAmong state is_told is_honest (snapshots_due u v) u.disk v.disk) (honest : IsTrue (is_honest u.disk.disk)) (told : IsTrue (is_told u.disk.disk)) (bases : Each (HasBase (seat w m).member.durable.log) (snapshots_kept u.disk.kept.entries))
+    (st : StoppedAmong state is_told is_honest (snapshots_due u v) u.disk v.disk) (honest : IsTrue (is_honest u.disk.disk)) (told : IsTrue (is_told u.disk.disk))
     (sound : (f : ℕ) → IsSound ((state v.disk.disk).files f)) (crash : CrashLeaves choice (state v.disk.disk) (state disk)) where
   abbrev s : Seat
   s = seat w m
@@ -82,13 +81,9 @@ module _ {D : Type 0} (state : D → DiskState) (is_told is_honest : D → Bool)
   abbrev pub CutHere : Type 0
   CutHere = IsCutAt kinds past three (formed state kinds n w m five three lawful u going up) state is_told is_honest choice v.disk disk sound crash dues s.member
 
-  pub here-between : v.disk.disk ≡ st.until.disk → CutHere
-  here-between same = between kinds past three (formed state kinds n w m five three lawful u going up) state is_told is_honest choice v.disk disk sound crash dues (snapshots_due u v) u.disk s.member
-      (snapshots-are state kinds n w m five three lawful u going up v cs xss g count) (dues-named kinds past s.applied s.member.values.rest.commit) (up-keeps state is_told is_honest kinds n w m five three lawful u going up honest told bases) st same
-
-  pub here-anywhere : HasLastFile state is_told is_honest (snapshots_due u v) u.disk v.disk st → CutHere
-  here-anywhere file = cut-at kinds past three (formed state kinds n w m five three lawful u going up) state is_told is_honest choice v.disk disk sound crash dues (snapshots_due u v) u.disk s.member
-      (snapshots-are state kinds n w m five three lawful u going up v cs xss g count) (dues-named kinds past s.applied s.member.values.rest.commit) (up-keeps state is_told is_honest kinds n w m five three lawful u going up honest told bases) st file
+  pub cut-here : CutHere
+  cut-here = cut-at kinds past three (formed state kinds n w m five three lawful u going up) state is_told is_honest choice v.disk disk sound crash dues (snapshots_due u v) u.disk s.member
+      (snapshots-are state kinds n w m five three lawful u going up v cs xss g count) (dues-named kinds past s.applied s.member.values.rest.commit) (up-keeps state is_told is_honest kinds n w m five three lawful u going up honest told) st
 
   pub seat-stops : (c : CutHere) → IsSeat state kinds (stopped_seat ended v false disk) (halted (stopped (all_put c.due s.member).durable) (state v.disk.disk).own_faults (all_fed s))
   seat-stops c = stopped-stands state kinds choice v false ended disk crash (all_put c.due s.member).durable (all_fed s) past c.left (base ∙ up.first) (let b = up.within in omega (arith, base, b)) inputs is.ended

@@ -53,10 +53,6 @@ use Rattle.consensus_agent.specs.Written.{AreWritten, IsThereIn, IsWritten, Snap
 use Rattle.member_phases.proofs.Takes.{each-front}
 use Rattle.member_phases.proofs.Worlds.{IsFront, commit-low, front-is, inputs-front}
 
--- each snapshot entry that is kept of a member that runs says where its term begins in its log
-pub bases-of : {D : Type 0} (state : D → DiskState) (kinds : List Kind) (u : UpSeen D) (going : Bool) (s : Seat) → IsUp state kinds u going s → Each (HasBase s.member.durable.log) (snapshots_kept u.disk.kept.entries)
-bases-of {D} state kinds u going s up = subst (λ (l : Log). Each (HasBase l) (snapshots_kept u.disk.kept.entries)) (sym up.durable.log) up.mountable.bases
-
 -- a member's log is well formed
 pub log-formed : (n : ℕ) (kinds : List Kind) (w : RunWorld) (m : ℕ) → n ≤ 5 → length kinds ≤ 3 → Lawful n kinds w → IsWellFormedOn kinds (seat w m).member.durable.log
 log-formed n kinds w m five three lawful =
@@ -347,7 +343,7 @@ module _ {D : Type 0} (state : D → DiskState) (is_told is_honest : D → Bool)
       -- its disk stands for the member that put all
       kept-on : Keeps kinds past three formed state is_told is_honest v.disk (all_put due_here s.member).durable
       kept-on = all-kept kinds past three formed state is_told is_honest due_here (snapshots_due u v) u.disk v.disk s.member snapshots-are (dues-named kinds past s.applied s.member.values.rest.commit)
-          (record { right = right; told = told; count = up.mountable.count; held = up.mountable.held; same_log = sym up.durable.log; durable = up.durable; bases = bases-of state kinds u false s up; named = snaps-named n kinds w m lawful; begin = entries-begin n kinds w m five three lawful }) d.written
+          (record { right = right; told = told; count = up.mountable.count; held = up.mountable.held; same_log = sym up.durable.log; durable = up.durable; bases = subst (λ (l : Log). Each (HasBase l) (snapshots_kept u.disk.kept.entries)) (sym up.durable.log) up.mountable.bases; named = snaps-named n kinds w m lawful; begin = entries-begin n kinds w m five three lawful }) d.written
 
       pub written-phase : IsPhase state kinds m u v sent w
       written-phase = record {

@@ -5,7 +5,6 @@ use Rattle.cl_base.specs.Disk.{CrashLeaves, DiskState}
 use Rattle.cl_base.specs.Images.{IsSound}
 use Rattle.cl_base.specs.declared.disk.Choice.{Choice}
 use Rattle.entry_log.specs.Log.{Log}
-use Rattle.member_disk.specs.CutWell.{snapshots_of as snapshots_kept}
 use Rattle.service_api.specs.declared.shipped.Kind.{Kind}
 use Rattle.service_phases.specs.Pairs.{Each}
 use Rattle.service_phases.specs.Phases.{IsWithin}
@@ -17,22 +16,21 @@ use Rattle.run_world.specs.Seat.{Seat, halted, is_resting, opened}
 use Rattle.run_world.specs.RunWorld.{RunWorld, seat}
 use Rattle.run_orders.specs.Stands.{EndedSeen, IsSeat, IsUp, UpSeen}
 use Rattle.member_rows.specs.Places.{running_seat, stopped_seat}
-use Rattle.member_phases.specs.Calls.{PhaseCut, commit_of, snapshots_due}
-use Rattle.member_phases.specs.Cuts.{HasLastFile, IsCutPhase}
+use Rattle.member_phases.specs.Calls.{PhaseCut, commit_of}
+use Rattle.member_phases.specs.Cuts.{IsCutPhase}
 use Rattle.member_phases.specs.Grown.{GrewTo}
 use Rattle.member_phases.specs.Seats.{all_fed}
-use Rattle.run_orders.specs.Kept.{HasBase}
 use Rattle.member_phases.specs.Snapshots.{all_put}
 use Rattle.member_phases.proofs.Acts.{stopped-at}
 use Rattle.member_phases.proofs.Ended.{commit-within, entries-at, same-commit, within}
 use Rattle.member_phases.proofs.Ending.{feeds, taken}
-use Rattle.member_phases.proofs.Halting.{CutHere, here-anywhere, here-between, seat-stops}
+use Rattle.member_phases.proofs.Halting.{CutHere, cut-here, seat-stops}
 use Rattle.member_phases.proofs.Phased.{all-within, inputs-count}
 use Rattle.member_phases.proofs.Takes.{each-front}
 use Rattle.member_phases.proofs.Worlds.{IsFront, inputs-front, printed-all, seat-there, up-there}
 
 module _ {D : Type 0} (state : D → DiskState) (is_told is_honest : D → Bool) (kinds : List Kind) (n : ℕ) (w : RunWorld) (m : ℕ) (five : n ≤ 5) (three : length kinds ≤ 3) (lawful : Lawful n kinds w) (u v : UpSeen D) (choice : Choice) (ended : List EndedSeen) (disk : D)
-    (is : IsSeat state kinds (running_seat choice ended u false) (seat w m)) (d : PhaseCut state is_told is_honest u v) (honest : IsTrue (is_honest u.disk.disk)) (told : IsTrue (is_told u.disk.disk)) (bases : Each (HasBase (seat w m).member.durable.log) (snapshots_kept u.disk.kept.entries))
+    (is : IsSeat state kinds (running_seat choice ended u false) (seat w m)) (d : PhaseCut state is_told is_honest u v) (honest : IsTrue (is_honest u.disk.disk)) (told : IsTrue (is_told u.disk.disk))
     (sound : (f : ℕ) → IsSound ((state v.disk.disk).files f)) (crash : CrashLeaves choice (state v.disk.disk) (state disk)) where
   abbrev s : Seat
   s = seat w m
@@ -70,7 +68,7 @@ module _ {D : Type 0} (state : D → DiskState) (is_told is_honest : D → Bool)
   }
 
   abbrev Cut : Type 0
-  Cut = CutHere state is_told is_honest kinds n w m five three lawful u v false choice ended disk is u.lending.kept s.run.inputs grows refl d.base d.stopped honest told bases sound crash
+  Cut = CutHere state is_told is_honest kinds n w m five three lawful u v false choice ended disk is u.lending.kept s.run.inputs grows refl d.base d.stopped honest told sound crash
 
   -- once so many snapshots were put
   cut-phase : Cut → IsCutPhase state kinds m (stopped_seat ended v false disk) w
@@ -89,11 +87,8 @@ module _ {D : Type 0} (state : D → DiskState) (is_told is_honest : D → Bool)
           ends = sym (ap (λ (z : RunWorld). phase_over kinds m over.0 over.1 z) (taken n kinds w m lawful up.up up.phase count) ∙ over.2);
           rests = ap (λ (z : Seat). is_resting z.phase) (seat-there w m after there);
         };
-        seat = seat-stops state is_told is_honest kinds n w m five three lawful u v false choice ended disk is u.lending.kept s.run.inputs grows refl d.base d.stopped honest told bases sound crash c;
+        seat = seat-stops state is_told is_honest kinds n w m five three lawful u v false choice ended disk is u.lending.kept s.run.inputs grows refl d.base d.stopped honest told sound crash c;
       }
 
-  pub cut-between : v.disk.disk ≡ d.stopped.until.disk → IsCutPhase state kinds m (stopped_seat ended v false disk) w
-  cut-between here = cut-phase (here-between state is_told is_honest kinds n w m five three lawful u v false choice ended disk is u.lending.kept s.run.inputs grows refl d.base d.stopped honest told bases sound crash here)
-
-  pub cut-anywhere : HasLastFile state is_told is_honest (snapshots_due u v) u.disk v.disk d.stopped → IsCutPhase state kinds m (stopped_seat ended v false disk) w
-  cut-anywhere file = cut-phase (here-anywhere state is_told is_honest kinds n w m five three lawful u v false choice ended disk is u.lending.kept s.run.inputs grows refl d.base d.stopped honest told bases sound crash file)
+  pub phase-cut : IsCutPhase state kinds m (stopped_seat ended v false disk) w
+  phase-cut = cut-phase (cut-here state is_told is_honest kinds n w m five three lawful u v false choice ended disk is u.lending.kept s.run.inputs grows refl d.base d.stopped honest told sound crash)

@@ -96,13 +96,6 @@ module _ (kinds : List Kind) (log : Log) (few : length kinds ≤ 3) (formed : Is
       pub named : Each (NamedIn kinds log) d.snapshots
       pub begin : (i : ℕ) (x : Entry) → slice_get log i ≡ Some x → Begins x.term log
 
-    -- its entry, as it is put, says where its term begins
-    pub entry-base : (s : Snapshot) (a : DiskHeld D) (d : Durable) (name : NamedIn kinds log (snapshot_as s)) (k : Keeps a d) → HasBase log (entry_for a.kept s.head)
-    entry-base s a d name k = record {
-      begins = subst (λ (t : ℤ). Begins t log) (sym (ap (λ (q : SnapshotEntry). q.term) name.6)) (k.begin name.0 name.1 name.3);
-      base = ap (λ (l : Log). pos (base_of s.head.term (new_terms 0 l))) k.same_log;
-    }
-
     module _ (s : Snapshot) (a b : DiskHeld D) (d : Durable) (name : NamedIn kinds log (snapshot_as s)) (k : Keeps a d) (w : IsWritten state is_told is_honest s a b) where
       abbrev e : SnapshotEntry
       e = snapshot_as s
@@ -172,6 +165,10 @@ module _ (kinds : List Kind) (log : Log) (few : length kinds ≤ 3) (formed : Is
           let old = others-stored (state a.disk).files fb e name (w.others k.right) (snapshots_of a.kept.entries) d.snapshots k.durable.snapshots k.named none in
           let here : IsStored fb entry e = record { recording = refl; service = refl; term = refl; position = refl; stamp = refl; pieces = w.stored k.told new } in
           let all : Each2 (IsStored fb) (snapshots_of a.kept.entries ++ entry ∷ []) (d.snapshots ++ e ∷ []) = each-append (IsStored fb) (snapshots_of a.kept.entries) (entry ∷ []) d.snapshots (e ∷ []) old (here, tt) in
+          let base : HasBase log entry = record {
+            begins = subst (λ (t : ℤ). Begins t log) (sym (ap (λ (q : SnapshotEntry). q.term) name.6)) (k.begin name.0 name.1 name.3);
+            base = ap (λ (l : Log). pos (base_of s.head.term (new_terms 0 l))) k.same_log;
+          } in
           record {
             right = w.right k.right;
             told = told-on;
@@ -180,7 +177,7 @@ module _ (kinds : List Kind) (log : Log) (few : length kinds ≤ 3) (formed : Is
             same_log = ap (λ (z : Kept). z.log) kept ∙ k.same_log;
             durable = subst (λ (z : Kept). IsStateOf z fb (record d { snapshots = d.snapshots ++ e ∷ [] })) (sym kept)
                 (record { candidate = k.durable.candidate; voted = k.durable.voted; log = k.durable.log; snapshots = subst (λ (l : List RecEntry). Each2 (IsStored fb) l (d.snapshots ++ e ∷ [])) (sym more) all });
-            bases = subst (λ (z : Kept). Each (HasBase log) (snapshots_of z.entries)) (sym kept) (subst (Each (HasBase log)) (sym more) (each-on (HasBase log) (snapshots_of a.kept.entries) entry k.bases (entry-base s a d name k)));
+            bases = subst (λ (z : Kept). Each (HasBase log) (snapshots_of z.entries)) (sym kept) (subst (Each (HasBase log)) (sym more) (each-on (HasBase log) (snapshots_of a.kept.entries) entry k.bases base));
             named = each-on (NamedIn kinds log) d.snapshots e k.named name;
             begin = k.begin;
           }

@@ -36,8 +36,8 @@ ghost use Rattle.egress.specs.Streams.{StreamSeen};
 ghost use Rattle.egress.specs.declared.sent.Sent.{Sent};
 ghost use Rattle.member_rows.specs.Calls.{PacketDone, RowDone, duty_row};
 ghost use Rattle.member_rows.specs.Places.{run_ended, running_seat, stopped_seat};
-ghost use Rattle.member_phases.specs.Calls.{IsBetween, PhaseCut, PhaseDone, commit_of, snapshots_due};
-ghost use Rattle.member_phases.specs.Cuts.{HasLastFile, IsCutPhase};
+ghost use Rattle.member_phases.specs.Calls.{IsBetween, PhaseCut, PhaseDone, commit_of};
+ghost use Rattle.member_phases.specs.Cuts.{IsCutPhase};
 ghost use Rattle.member_phases.specs.Frees.{DropsSo, EndsSo, FreeBegun, FreeCut, FreeDropped, FreeEnded, FreeFed, GoesOnSo, IsOff, IsOn, PhaseRuns, StaysBeside, StopsSo, with_consumed};
 ghost use Rattle.member_phases.specs.Grown.{GrewTo};
 ghost use Rattle.member_phases.specs.Phases.{IsPhase, phase_seen};
@@ -92,13 +92,10 @@ pub fn a_phase_is_seen<D: Disk>()
         → (p : IsPhase D.state kinds m u v sent w) → Stands D.state kinds (phase_seen m (running_seat choice ended v false) sent x) (with_records p.records (with_seat m p.after w)) }
 {}
 
-/// A phase of a member that a fault of its disk ended, as its snapshots were put, is a phase in the world that a fault cut: what a crash by the seat's choice leaves of the disk stands to the seat of the stopped member, whose services had consumed all that is committed, and nothing is sent. So it is where the fault came between two snapshots, and where it came to one that is in its file or of which no image has the entry.
+/// A phase of a member that a fault of its disk ended, as its snapshots were put, is a phase in the world that a fault cut: what a crash by the seat's choice leaves of the disk stands to the seat of the stopped member, whose services had consumed all that is committed, and nothing is sent.
 pub fn a_cut_phase_is_acts<D: Disk>()
-    ensures between { (n : ℕ) (kinds : List Kind) (w : RunWorld) (m : ℕ) (u v : UpSeen D) (choice : Choice) (ended : List EndedSeen) (d : D) → n ≤ 5 → length kinds ≤ 3 → Lawful n kinds w → IsTrue (D.is_honest u.disk.disk)
-        → IsSeat D.state kinds (running_seat choice ended u false) (seat w m) → (p : PhaseCut D.state D.tells D.is_honest u v) → v.disk.disk ≡ p.stopped.until.disk → CrashLeaves choice (D.state v.disk.disk) (D.state d) → IsCutPhase D.state kinds m (stopped_seat ended v false d) w }
-    ensures anywhere { (n : ℕ) (kinds : List Kind) (w : RunWorld) (m : ℕ) (u v : UpSeen D) (choice : Choice) (ended : List EndedSeen) (d : D) → n ≤ 5 → length kinds ≤ 3 → Lawful n kinds w → IsTrue (D.is_honest u.disk.disk)
-        → IsSeat D.state kinds (running_seat choice ended u false) (seat w m) → (p : PhaseCut D.state D.tells D.is_honest u v) → HasLastFile D.state D.tells D.is_honest (snapshots_due u v) u.disk v.disk p.stopped → CrashLeaves choice (D.state v.disk.disk) (D.state d)
-        → IsCutPhase D.state kinds m (stopped_seat ended v false d) w }
+    ensures acts { (n : ℕ) (kinds : List Kind) (w : RunWorld) (m : ℕ) (u v : UpSeen D) (choice : Choice) (ended : List EndedSeen) (d : D) → n ≤ 5 → length kinds ≤ 3 → Lawful n kinds w → IsTrue (D.is_honest u.disk.disk)
+        → IsSeat D.state kinds (running_seat choice ended u false) (seat w m) → PhaseCut D.state D.tells D.is_honest u v → CrashLeaves choice (D.state v.disk.disk) (D.state d) → IsCutPhase D.state kinds m (stopped_seat ended v false d) w }
     ensures seen { (kinds : List Kind) (x : RunSeen D) (w : RunWorld) (m : ℕ) (y : SeatSeen D) → Stands D.state kinds x w → (p : IsCutPhase D.state kinds m y w) → Stands D.state kinds (phase_seen m y [] x) (with_seat m p.after w) }
 {}
 
@@ -113,7 +110,7 @@ pub fn a_phase_goes_on<D: Disk>()
 /// A phase that goes on and that a fault of the disk ends, or that is dropped at a stop, is acts of phases in the world: what a crash by the seat's choice leaves of the disk stands to the seat of the stopped member, whose services had consumed what their containers did, and nothing is sent.
 pub fn a_phase_breaks_off<D: Disk>()
     ensures cut { (n : ℕ) (kinds : List Kind) (w : RunWorld) (m : ℕ) (u v : UpSeen D) (feeds : List Fed) (choice : Choice) (ended : List EndedSeen) (d : D) → n ≤ 5 → length kinds ≤ 3 → Lawful n kinds w → IsTrue (D.is_honest u.disk.disk)
-        → IsSeat D.state kinds (running_seat choice ended u true) (seat w m) → PhaseRuns kinds u feeds (seat w m) → (p : FreeCut D.state D.tells D.is_honest u v feeds) → ((r : HaveRising v.lending.kept) → HasLastFile D.state D.tells D.is_honest (snapshots_due u v) u.disk v.disk (p.stopped r))
+        → IsSeat D.state kinds (running_seat choice ended u true) (seat w m) → PhaseRuns kinds u feeds (seat w m) → FreeCut D.state D.tells D.is_honest u v feeds
         → CrashLeaves choice (D.state v.disk.disk) (D.state d) → StopsSo D.state kinds m (stopped_seat ended v false d) w }
     ensures dropped { (n : ℕ) (kinds : List Kind) (w : RunWorld) (m : ℕ) (u x v : UpSeen D) (feeds : List Fed) → n ≤ 5 → length kinds ≤ 3 → Lawful n kinds w → IsUp D.state kinds u true (seat w m) → PhaseRuns kinds u feeds (seat w m) → x.lending ≡ u.lending → x.base ≡ u.base → FreeDropped x v feeds
         → DropsSo D.state kinds m v w }

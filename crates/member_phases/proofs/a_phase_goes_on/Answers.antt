@@ -1,7 +1,4 @@
-use Rattle.std.proofs.Common.{true}
 use Rattle.member_phases.proofs.Begun.{free-begins, free-feeds}
-use Rattle.run_world.specs.RunWorld.{seat}
-use Rattle.member_phases.proofs.Phased.{bases-of}
 use Rattle.member_phases.proofs.Freed.{free-ends}
 use Rattle.member_phases.proofs.a_phase_goes_on.Goals as goal
 
@@ -12,4 +9,4 @@ pub returns-clause-fed : goal.returns-clause-fed
 returns-clause-fed g c n kinds w m u v feeds next five three lawful up runs d = free-feeds _ kinds n w m five three lawful u v feeds next up runs d
 
 pub returns-clause-ended : goal.returns-clause-ended
-returns-clause-ended g c n kinds w m u v feeds sent five three lawful honest up runs d = free-ends _ _ _ kinds n w m five three lawful u v feeds sent up runs d honest (g.met.D.Disk.honest_tells u.disk.disk honest) (bases-of g.D.Disk.state kinds u true (seat w m) up)
+returns-clause-ended g c n kinds w m u v feeds sent five three lawful honest up runs d = free-ends _ _ _ kinds n w m five three lawful u v feeds sent up runs d honest (g.met.D.Disk.honest_tells u.disk.disk honest)

@@ -1,5 +1,6 @@
 -- A snapshot is put by one part: the file's calls leave standing what is kept.
-use Rattle.std.proofs.Common.{◌+◌, ◌≤◌, [], ◌∷◌, Ok, Err, IsTrue, refl, sym, subst, arith}
+use Rattle.std.proofs.Common.{◌+◌, ◌≤◌, inl, inr, [], ◌∷◌, Result, Ok, Err, IsTrue, refl, sym, ◌∙◌, subst, arith}
+use Rattle.std.specs.Prelude.{OnErr}
 use Rattle.cl_base.specs.Runs.{DiskLaws}
 use Rattle.recording_log.specs.declared.entry.RecEntry.{RecEntry}
 use Rattle.recording_log.specs.Listed.{IsThere}
@@ -115,3 +116,23 @@ pub returns-then-has_entry-clause-cut_well : goal.returns-then-has_entry-clause-
 returns-then-has_entry-clause-cut_well g c honest all terms none =
     let there = c.has_entry.ensures.there c.if-has_entry.true in
     absurd (none (subst (λ (e : RecEntry). IsThere e c.args.self.now.entries) c.entry_for.ensures (subst (λ (k : Kept). IsThere c.entry_for.result k.entries) c.self.view_is there)))
+
+-- ---- where it fails
+
+on_err : {T E : Type 0} (result : Result T E) (P : Type 0) → P → OnErr result P
+on_err (Ok x) P is = tt
+on_err (Err e) P is = is
+
+pub returns-in-Err-clause-filed : goal.returns-in-Err-clause-filed
+returns-in-Err-clause-filed g c honest all none =
+    let past : 258 ≤ 258 + c.args.head.recording = omega arith in
+    inl (stays_all (laws_of g) c.args.self.now c.args.disk.now c.write.new.disk (258 + c.args.head.recording) past honest all (c.write.ensures.others (g.met.D.Disk.honest_tells c.args.disk.now honest)))
+
+pub returns-in-Ok-clause-filed : goal.returns-in-Ok-clause-filed
+returns-in-Ok-clause-filed g c honest all none =
+    let told = g.met.D.Disk.honest_tells c.args.disk.now honest in
+    let told1 = subst IsTrue (sym c.write.ensures.tells) told in
+    on_err c.add_snapshot.result _ (inr (c.add_snapshot.ensures.others told1 (258 + c.args.head.recording) (λ e. absurd (omega (arith, e))) ∙ c.in-Ok.ensures.done told))
+
+pub returns-then-has_entry-clause-filed : goal.returns-then-has_entry-clause-filed
+returns-then-has_entry-clause-filed g c honest all none = tt
