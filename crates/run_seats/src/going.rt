@@ -3,7 +3,7 @@ ghost use Rattle.cluster_backup.specs.Spelling.{HasSpelling};
 ghost use Rattle.run_phases.specs.Frees.{IsFree, IsGoing};
 ghost use Rattle.run_seats.specs.Seen.{stage_of};
 
-use crate::calls::Call;
+use crate::asking::Call;
 use crate::idle::Idle;
 use crate::member::Member;
 use crate::stopped::Failed;

@@ -4,7 +4,7 @@ ghost use Rattle.cluster_backup.specs.Spelling.{HasSpelling};
 ghost use Rattle.run_seats.specs.Seen.{stage_of};
 ghost use Rattle.service_phases.specs.Stages.{IsIdle};
 
-use crate::calls::Call;
+use crate::asking::Call;
 use crate::going::Going;
 use crate::member::Member;
 use crate::stopped::Failed;

@@ -3,6 +3,7 @@
 #![tactic(auto)]
 
 mod answer;
+mod asking;
 mod calls;
 mod going;
 mod idle;
@@ -14,7 +15,7 @@ mod seat;
 mod site;
 mod stopped;
 
-pub use calls::Asking;
+pub use asking::Asking;
 pub use member::Shown;
 pub use mounted::Mounted;
 pub use running::Running;

@@ -2,7 +2,7 @@
 ghost use Rattle.std.specs.Prelude.{◌≡◌};
 ghost use Rattle.cluster_backup.specs.Spelling.{HasSpelling};
 
-use crate::calls::Call;
+use crate::asking::Call;
 use crate::going::Going;
 use crate::idle::Idle;
 use crate::member::{Member, Shown};

@@ -1,7 +1,7 @@
 // One member of a run, with its disk.
 ghost use Rattle.std.specs.Prelude.{◌≡◌, ◌+◌, ◌≤◌, ◌<◌, ◌^◌, IfOk, length};
 
-use crate::calls::{Asking, Call};
+use crate::asking::{Asking, Call};
 use crate::mounted::Mounted;
 use crate::running::{Running, start};
 use crate::site::{MemberId, Site};
