@@ -2,3 +2,5 @@ pub mod Going
 pub mod Calls
 pub mod Seen
 pub mod Asked
+pub mod Failed
+pub mod Phased

@@ -1,6 +1,7 @@
 // The phases of a running member.
-ghost use Rattle.std.specs.Prelude.{◌≡◌, [], true, false, OnOk, IfOk};
+ghost use Rattle.std.specs.Prelude.{◌≡◌, [], true, false, IsTrue, OnOk, IfOk};
 ghost use Rattle.run_phases.specs.Frees.{IsFree, IsGoing};
+ghost use Rattle.run_seats.specs.Phased.{PhaseRan};
 ghost use Rattle.run_seats.specs.Seen.{stage_of};
 ghost use Rattle.service_phases.specs.Feeds.{HasCommit};
 ghost use Rattle.service_phases.specs.Pairs.{Each};
@@ -29,6 +30,8 @@ impl<D: Disk> Member<D> {
         requires none { lanes.old ≡ [] }
         ensures idle { OnOk result (IsIdle (stage_of self.new)) }
         ensures none { lanes.new ≡ [] }
+        ensures whole { IsTrue self.old.whole → OnOk result (IsTrue self.new.whole) }
+        ensures ran { IsTrue self.old.whole → IfOk result (PhaseRan D.state D.tells D.is_honest self.old.seen self.new.seen) }
     {
         run_phase(rt, alloc, &mut self.agent, lanes)
     }
