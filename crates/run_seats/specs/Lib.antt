@@ -4,3 +4,4 @@ pub mod Seen
 pub mod Asked
 pub mod Failed
 pub mod Phased
+pub mod Running

@@ -47,6 +47,7 @@ impl<D: Disk> Member<D> {
         ensures free { IfOk result (λ p. IsFree (stage_of self.new) p) }
         ensures going { IfOk result (λ p. IsGoing (stage_of self.new) p.feeds) }
         ensures on { IfOk result (λ _. self.new.seen.over ≡ false) }
+        ensures whole { self.new.whole ≡ self.old.whole }
     {
         free_begin(rt, &mut self.agent, lanes)
     }
@@ -65,6 +66,7 @@ impl<D: Disk> Member<D> {
         ensures published { OnOk result (Each (HasCommit self.new.seen.core.values.rest.commit) phase.new.feeds) }
         ensures over { OnOk result (self.new.seen.over ≡ self.old.seen.over) }
         ensures goes_on { IfOk result (λ fed. self.new.seen.over ≡ true → fed ≡ Fed.Over) }
+        ensures whole { self.new.whole ≡ self.old.whole }
     {
         free_feed(rt, alloc, &mut self.agent, phase)
     }
@@ -80,6 +82,7 @@ impl<D: Disk> Member<D> {
         requires going { IsGoing (stage_of self.old) phase.feeds }
         ensures idle { OnOk result (IsIdle (stage_of self.new)) }
         ensures none { IfOk result (λ p. p.1 ≡ []) }
+        ensures whole { OnOk result (IsTrue self.new.whole) }
     {
         free_end(rt, alloc, &mut self.agent, phase)
     }
