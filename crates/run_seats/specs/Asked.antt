@@ -16,7 +16,6 @@ use Rattle.run_outside.specs.Gives.{newly, with_packets}
 use Rattle.run_outside.specs.declared.outside.Outside.{Outside}
 use Rattle.run_seats.specs.declared.asking.Asking.{Asking}
 use Rattle.run_seats.specs.declared.asking.Asking.TheVariants as asking
-use Rattle.run_seats.specs.declared.asking.Call.{Call}
 use Rattle.run_seats.specs.declared.asking.Given.{Given}
 
 -- the packets of a delivery: none where its bytes are called bad
@@ -67,15 +66,15 @@ pub record Gave (from : ℕ) (g : Given) (a b : Outside) : Type 0 where
   pub egress : b.egress ≡ with_answer g.answer a.egress
 
 module _ {D : Type 0} (state : D → DiskState) (is_told is_honest : D → Bool) where
-  -- a member was called: what it was asked was taken, what that gives was given, and what it has committed is printed
-  pub record Asked (call : Call) (u v : UpSeen D) (outcome : Option Outcome) (a b : Outside) : Type 0 where
+  -- the member of a number was asked this at a moment (ms): it was taken, what that gives was given, and what the member has committed is printed
+  pub record Asked (from now : ℕ) (what : Asking) (u v : UpSeen D) (outcome : Option Outcome) (a b : Outside) : Type 0 where
     pub gives : Given
     pub told : outcome ≡ gives.outcome
-    pub took : Took state is_told is_honest call.asking call.now u v gives
-    pub gave : Gave call.member gives a b
+    pub took : Took state is_told is_honest what now u v gives
+    pub gave : Gave from gives a b
     pub printed : b.printed ≡ with_printed v a.printed
 
   -- a fault of its disk cut the call, and nothing was given
-  pub record Cut (call : Call) (u v : UpSeen D) (a b : Outside) : Type 0 where
-    pub fell : Fell state is_told is_honest call.asking call.now u v
+  pub record Cut (now : ℕ) (what : Asking) (u v : UpSeen D) (a b : Outside) : Type 0 where
+    pub fell : Fell state is_told is_honest what now u v
     pub silent : b ≡ a

@@ -53,8 +53,8 @@ impl<D: Disk> Member<D> {
     ) -> Result<Option<Outcome>, AgentFault>
         ensures called { Called result (stage_of self.old) (stage_of self.new) }
         ensures whole { OnOk result (IsTrue self.new.whole) }
-        ensures asked { IsTrue self.old.whole → IfOk result (λ o. Asked D.state D.tells D.is_honest call.entry self.old.seen self.new.seen o outside.old outside.new) }
-        ensures cut { IsTrue self.old.whole → OnFault result (Cut D.state D.tells D.is_honest call.entry self.old.seen self.new.seen outside.old outside.new) }
+        ensures asked { IsTrue self.old.whole → IfOk result (λ o. Asked D.state D.tells D.is_honest call.entry.member call.entry.now call.entry.asking self.old.seen self.new.seen o outside.old outside.new) }
+        ensures cut { IsTrue self.old.whole → OnFault result (Cut D.state D.tells D.is_honest call.entry.now call.entry.asking self.old.seen self.new.seen outside.old outside.new) }
     {
         let given = self.take(outside.alloc, call)?;
         let outcome = give(outside, call.member, given)?;

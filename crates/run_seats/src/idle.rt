@@ -88,8 +88,8 @@ impl<D: Disk> Idle<D> {
         outside: &mut Outside,
         call: Call<'_>,
     ) -> Result<(Idle<D>, Option<Outcome>), Failed<D>>
-        ensures asked { IfOk result (λ r. Asked D.state D.tells D.is_honest call.entry self r.0 r.1 outside.old outside.new) }
-        ensures cut { IfFailed result (λ v. Cut D.state D.tells D.is_honest call.entry self v outside.old outside.new) }
+        ensures asked { IfOk result (λ r. Asked D.state D.tells D.is_honest call.entry.member call.entry.now call.entry.asking self r.0 r.1 outside.old outside.new) }
+        ensures cut { IfFailed result (λ v. Cut D.state D.tells D.is_honest call.entry.now call.entry.asking self v outside.old outside.new) }
     {
         let (member, lanes) = self.into_parts();
         let mut member = member;

@@ -113,8 +113,8 @@ impl<D: Disk> Running<D> {
         call: Call<'_>,
     ) -> Result<(Running<D>, Option<Outcome>), Failed<D>>
         ensures going { IfOk result (λ r. r.0.going ≡ self.going) }
-        ensures asked { self.going ≡ false → IfOk result (λ r. Asked D.state D.tells D.is_honest call.entry self.member r.0.member r.1 outside.old outside.new) }
-        ensures cut { self.going ≡ false → IfFailed result (λ v. Cut D.state D.tells D.is_honest call.entry self.member v outside.old outside.new) }
+        ensures asked { self.going ≡ false → IfOk result (λ r. Asked D.state D.tells D.is_honest call.entry.member call.entry.now call.entry.asking self.member r.0.member r.1 outside.old outside.new) }
+        ensures cut { self.going ≡ false → IfFailed result (λ v. Cut D.state D.tells D.is_honest call.entry.now call.entry.asking self.member v outside.old outside.new) }
     {
         match self.state {
             State::Idle(idle) => {
