@@ -5,12 +5,12 @@ use Rattle.consensus_agent.specs.declared.fault.AgentFault.TheVariants as fault
 use Rattle.run_orders.specs.Stands.{UpSeen}
 use Rattle.run_seats.specs.declared.stopped.Failed.{Failed}
 
--- a fact of a fault, but where memory was wanted
-abbrev pub Unless : AgentFault → Type 0 → Type 0
-Unless fault.NoMemory p = ⊤
-Unless _ p = p
+-- it was not memory that was wanted
+abbrev pub NotMemory : AgentFault → Type 0
+NotMemory fault.NoMemory = ⊥
+NotMemory _ = ⊤
 
 -- a fact of a member whose disk failed under a call
 abbrev pub IfFailed : {D T : Type 0} → Result T (Failed D) → (UpSeen D → Type 0) → Type 0
 IfFailed (Ok x) P = ⊤
-IfFailed (Err f) P = Unless f.fault (P f.member.seen)
+IfFailed (Err f) P = NotMemory f.fault → P f.member.seen

@@ -5,3 +5,5 @@ pub mod Asked
 pub mod Failed
 pub mod Phased
 pub mod Running
+pub mod Seats
+pub mod Steps

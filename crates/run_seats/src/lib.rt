@@ -5,6 +5,7 @@
 mod answer;
 mod asking;
 mod calls;
+mod ended;
 mod going;
 mod idle;
 mod member;
@@ -16,8 +17,9 @@ mod site;
 mod stopped;
 
 pub use asking::Asking;
+pub use ended::{ServiceRun, first_number};
 pub use member::Shown;
 pub use mounted::Mounted;
 pub use running::Running;
-pub use seat::{Seat, ServiceRun, Took, first_number};
+pub use seat::{Seat, Took};
 pub use site::{MemberId, Site};

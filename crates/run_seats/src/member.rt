@@ -1,5 +1,5 @@
 // A running member, as its phases and its calls ask for it.
-ghost use Rattle.std.specs.Prelude.{◌≡◌, IsTrue, IfOk, OnOk, slice_get};
+ghost use Rattle.std.specs.Prelude.{◌≡◌, ◌≤◌, ◌^◌, min, length, IsTrue, IfOk, OnOk, slice_get};
 ghost use Rattle.consensus_agent.specs.Consumed.{inputs_of};
 ghost use Rattle.run_seats.specs.Asked.{with_printed};
 ghost use Rattle.run_seats.specs.Seen.{IsFused, stage_of};
@@ -106,9 +106,17 @@ impl<D: Disk> Member<D> {
         self.agent.services()
     }
 
+    /// How many services are at hand, up to 255: all of them while no phase runs.
+    pub(crate) fn at_hand(&self) -> u8
+        ensures { result ≡ min (length self.now.seen.lending.kept) 255 }
+    {
+        self.agent.at_hand().min(255) as u8
+    }
+
     /// The entries of the snapshot from which its services began.
     pub(crate) fn base(&self) -> u64
-        ensures { result ≡ self.now.seen.base }
+        ensures value { result ≡ self.now.seen.base }
+        ensures bound { result ≤ 2 ^ 62 }
     {
         self.agent.base()
     }

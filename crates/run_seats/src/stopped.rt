@@ -1,10 +1,13 @@
 // A member that stops, and one that a call failed under.
-ghost use Rattle.std.specs.Prelude.{◌≡◌, ◌↔◌, IsTrue, slice_get};
-ghost use Rattle.consensus_agent.specs.Consumed.{inputs_of};
+ghost use Rattle.std.specs.Prelude.{◌≡◌, ◌↔◌, ◌≤◌, ◌++◌, false, length, map, IsTrue, OnOk};
+ghost use Rattle.member_rows.specs.Places.{run_ended};
+ghost use Rattle.run_seats.specs.Seats.{ended_seen};
 
+use crate::ended::{ServiceRun, ended_run};
 use crate::member::Member;
-use cl_base::{Disk, Entry};
+use cl_base::{Disk, NoMemory};
 use consensus_agent::AgentFault;
+use std::alloc::Global;
 
 /// A member that stops, no phase of which runs any more.
 #[derive(Drop)]
@@ -13,23 +16,23 @@ pub(crate) struct Stopped<D: Disk> {
 }
 
 impl<D: Disk> Stopped<D> {
-    /// How many services there are.
-    pub(crate) fn services(&self) -> u8 {
-        self.member.services()
-    }
-
-    /// The entries of the snapshot from which the services began.
-    pub(crate) fn base(&self) -> u64
-        ensures { result ≡ self.now.member.seen.base }
+    /// Keeps what the services consumed in the run of this number.
+    pub(crate) fn keep_inputs(
+        &self,
+        alloc: Global,
+        run: u64,
+        ended: &mut Vec<ServiceRun>,
+    ) -> Result<(), NoMemory>
+        ensures { length self.now.member.seen.lending.kept ≤ 255 → OnOk result (map ended_seen ended.new.items ≡ map ended_seen ended.old.items ++ run_ended self.now.member.seen false) }
     {
-        self.member.base()
-    }
-
-    /// What a service consumed.
-    pub(crate) fn inputs(&self, service: u8) -> &[Entry]
-        ensures { result.now ≡ inputs_of (slice_get self.now.member.seen.lending.kept service) }
-    {
-        self.member.inputs(service)
+        for service in 0..self.member.at_hand() {
+            let entries = self.member.inputs(service);
+            let one = ended_run(alloc, service, run, self.member.base(), entries)?;
+            if ended.push(one).is_err() {
+                return Err(NoMemory);
+            }
+        }
+        Ok(())
     }
 
     /// The disk as it stands.
