@@ -8,10 +8,12 @@ pub mod Entries
 pub mod Found
 pub mod Orders
 pub mod Phasing
+pub mod Pieces
 pub mod Quiets
 pub mod Ranges
 pub mod Reading
 pub mod Refusals
+pub mod Restoring
 pub mod Running
 pub mod Sets
 pub mod Shapes

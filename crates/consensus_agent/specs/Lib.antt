@@ -12,3 +12,4 @@ pub mod Accepted
 pub mod Faults
 pub mod Copies
 pub mod Quiet
+pub mod Restored

@@ -100,6 +100,7 @@ impl<D: Disk> Agent<D> {
         requires { self.old.core.values.rest.commit < 2 ^ 62 }
         ensures consumed { OnOk result (self.new.module.consumed ≡ self.old.module.consumed + (self.old.core.values.rest.commit - self.old.module.consumed)) }
         ensures ahead { OnOk result (self.new.module.ahead.entries ≡ drop (self.old.core.values.rest.commit - self.old.module.consumed) self.old.module.ahead.entries) }
+        ensures events { OnOk result (self.new.module.ahead.events ≡ drop (self.old.core.values.rest.commit - self.old.module.consumed) self.old.module.ahead.events) }
         ensures rest { OnOk result (HasConsumed self.old.module self.new.module) }
         ensures state { HaveRising self.old.services.kept → OnOk result (self.new.module.state ≡ module_over (outboxes self.old.services.kept) self.old.module.consumed self.old.module.state (take (self.old.core.values.rest.commit - self.old.module.consumed) self.old.module.ahead.events)) }
         ensures owed { HaveRising self.old.services.kept → IfOk result (λ sent. sent ≡ sent_over self.old.role (outboxes self.old.services.kept) self.old.module.consumed self.old.module.state (take (self.old.core.values.rest.commit - self.old.module.consumed) self.old.module.ahead.events)) }

@@ -1,5 +1,5 @@
 // How a member starts from its disk.
-ghost use Rattle.std.specs.Prelude.{◌≡◌, true, false, ◌<◌, ◌≤◌, ◌^◌, pos, negsuc, ◌≤ℤ◌, [], length, ◌∷◌, ◌++◌, unwrap_or, IsTrue, IfOk, IfErr, OnOk, MatchOption, MatchResult, Ok, Err, drop};
+ghost use Rattle.std.specs.Prelude.{◌≡◌, ◌+◌, true, false, ◌<◌, ◌≤◌, ◌^◌, pos, negsuc, ◌≤ℤ◌, [], length, ◌∷◌, ◌++◌, unwrap_or, IsTrue, IfOk, IfErr, OnOk, MatchOption, MatchResult, Ok, Err, drop};
 ghost use Rattle.cl_base.specs.Counts.{Rose};
 ghost use Rattle.cl_base.specs.Disk.{OthersStay};
 ghost use Rattle.cl_base.specs.Runs.{EachImage};
@@ -21,7 +21,10 @@ ghost use Rattle.consensus_agent.specs.Phases.{stage};
 ghost use Rattle.consensus_core.specs.Fit.{IsTerm, started};
 ghost use Rattle.consensus_agent.specs.Quiet.{Quiet, Failed};
 ghost use Rattle.consensus_agent.specs.Sound.{HasAhead};
+ghost use Rattle.snapshot_store.specs.Snapshots.{ArePieces, spelled};
+ghost use Rattle.member_disk.specs.Latest.{IsLatestEntry};
 ghost use Rattle.consensus_agent.specs.Copies.{IsNewest};
+ghost use Rattle.consensus_agent.specs.Restored.{GoesOn, GoOn, IsRestored, IsFromSet};
 ghost use Rattle.consensus_agent.specs.Starts.{IsNew, IsStart, IsFirst, ends_at, first_containers};
 
 use crate::agent::Agent;
@@ -81,6 +84,9 @@ fn set_of<D: Disk>(disk: &mut MemberDisk<D>, service: i32) -> Result<SetEntry, M
     requires low { negsuc 0 ≤ℤ service }
     requires high { service ≤ℤ pos 2 }
     requires whole { IsTrue disk.old.whole }
+    ensures strict { IfOk result (λ e. ArePieces e.pieces) }
+    ensures latest { IfOk result (IsLatestEntry disk.old.kept.services disk.old.kept.entries service) }
+    ensures pieces { IsTrue (D.tells disk.old.disk) → IfOk result (λ e. spelled e.pieces ≡ ((D.state disk.old.disk).files (258 + e.recording)).reads) }
     ensures kept { disk.new.kept ≡ disk.old.kept }
     ensures looked { Looked D.state D.tells D.is_honest disk.old disk.new }
     ensures quiet { OnOk result (Quiet D.fault_count D.state D.tells disk.old disk.new) }
@@ -141,6 +147,7 @@ fn restored_one<D: Disk>(
     requires low { service ≤ 2 }
     requires whole { IsTrue disk.old.whole }
     ensures at { IfOk result (IsAt (unwrap_or entries 0)) }
+    ensures on { IsTrue (D.tells disk.old.disk) → IfOk result (GoesOn disk.old.kept (D.state disk.old.disk).files (unwrap_or entries 0) kind service) }
     ensures kept { disk.new.kept ≡ disk.old.kept }
     ensures looked { Looked D.state D.tells D.is_honest disk.old disk.new }
     ensures quiet { OnOk result (Quiet D.fault_count D.state D.tells disk.old disk.new) }
@@ -162,6 +169,7 @@ fn restored_services<D: Disk>(
     requires few { length kinds.now ≤ 3 }
     requires whole { IsTrue disk.old.whole }
     ensures services { IfOk result (λ cs. Each (IsAt (unwrap_or entries 0)) cs.items) }
+    ensures on { IsTrue (D.tells disk.old.disk) → IfOk result (λ cs. GoOn disk.old.kept (D.state disk.old.disk).files (unwrap_or entries 0) kinds.now 0 cs.items) }
     ensures kept { disk.new.kept ≡ disk.old.kept }
     ensures looked { Looked D.state D.tells D.is_honest disk.old disk.new }
     ensures quiet { OnOk result (Quiet D.fault_count D.state D.tells disk.old disk.new) }
@@ -188,6 +196,7 @@ fn restored_state<D: Disk>(
 ) -> Result<ModuleState, MemberFault>
     requires few { services ≤ 3 }
     requires whole { IsTrue disk.old.whole }
+    ensures on { IsTrue (D.tells disk.old.disk) → IfOk result (IsRestored disk.old.kept (D.state disk.old.disk).files services) }
     ensures kept { disk.new.kept ≡ disk.old.kept }
     ensures looked { Looked D.state D.tells D.is_honest disk.old disk.new }
     ensures quiet { OnOk result (Quiet D.fault_count D.state D.tells disk.old disk.new) }
@@ -226,6 +235,7 @@ fn restored<D: Disk>(
     ensures base { IfOk result (λ s. s.base ≡ ends_at latest.position (shape_of disk.old.kept.log)) }
     ensures within { IfOk result (λ s. s.base ≤ length disk.old.kept.log) }
     ensures none { IfOk result (λ s. s.module.ahead.entries ≡ []) }
+    ensures on { IsTrue (D.tells disk.old.disk) → IfOk result (IsFromSet disk.old.kept (D.state disk.old.disk).files kinds.now) }
     ensures kept { disk.new.kept ≡ disk.old.kept }
     ensures looked { Looked D.state D.tells D.is_honest disk.old disk.new }
     ensures quiet { OnOk result (Quiet D.fault_count D.state D.tells disk.old disk.new) }
@@ -267,6 +277,7 @@ fn first_of<D: Disk>(
     ensures base { (set : SnapshotAt) → IsNewest disk.old.kept.services disk.old.kept.entries set → IfOk result (λ s. s.base ≡ ends_at set.position (shape_of disk.old.kept.log)) }
     ensures within { IfOk result (λ s. s.base ≤ length disk.old.kept.log) }
     ensures none { IfOk result (λ s. s.module.ahead.entries ≡ []) }
+    ensures on { IsTrue (D.tells disk.old.disk) → IfOk result (IsFromSet disk.old.kept (D.state disk.old.disk).files kinds.now) }
     ensures kept { disk.new.kept ≡ disk.old.kept }
     ensures looked { Looked D.state D.tells D.is_honest disk.old disk.new }
     ensures quiet { OnOk result (Quiet D.fault_count D.state D.tells disk.old disk.new) }
@@ -342,6 +353,7 @@ fn begin<D: Disk>(
     ensures within { IfOk result (λ s. s.base ≤ length disk.new.kept.log) }
     ensures ahead { IfOk result (λ s. HasAhead s.module disk.new.kept.log) }
     ensures exact { IsTrue (D.tells disk.old.disk) → IfOk result (λ s. s.module.ahead.entries ≡ drop s.base disk.old.kept.log) }
+    ensures on { IsTrue (D.tells disk.old.disk) → IfOk result (IsFromSet disk.old.kept (D.state disk.old.disk).files kinds.now) }
     ensures kept { disk.new.kept ≡ disk.old.kept }
     ensures looked { Looked D.state D.tells D.is_honest disk.old disk.new }
     ensures quiet { OnOk result (Quiet D.fault_count D.state D.tells disk.old disk.new) }
@@ -404,6 +416,8 @@ impl<D: Disk> Agent<D> {
         ensures first_services { IfOk result (λ a. HasNoSet a.disk.kept.services a.disk.kept.entries → a.services.kept ≡ first_containers 0 kinds.now) }
         ensures first_module { IfOk result (λ a. HasNoSet a.disk.kept.services a.disk.kept.entries → a.module.state ≡ first_module (length kinds.now)) }
         ensures base { IfOk result (λ a. (set : SnapshotAt) → IsNewest a.disk.kept.services a.disk.kept.entries set → a.base ≡ ends_at set.position (shape_of a.disk.kept.log)) }
+        ensures services_from_set { IsTrue (D.tells disk) → IfOk result (λ a. GoOn a.disk.kept (D.state a.disk.disk).files a.base kinds.now 0 a.services.kept) }
+        ensures module_from_set { IsTrue (D.tells disk) → IfOk result (λ a. IsRestored a.disk.kept (D.state a.disk.disk).files (length kinds.now) a.module.state) }
         ensures exact { IsTrue (D.tells disk) → IfOk result (λ a. a.module.ahead.entries ≡ drop a.base a.disk.kept.log) }
 
         // Past the mount of the disk it only looks. So whatever the answer, each image means what was kept, and a fuse ends

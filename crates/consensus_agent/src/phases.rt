@@ -1,5 +1,5 @@
 // The phases of a member, in which its services consume what is committed.
-ghost use Rattle.std.specs.Prelude.{◌≡◌, true, Ok, ℕ, ◌+◌, ◌-◌, ◌<◌, ◌≤◌, ◌^◌, List as ListOf, [], ◌++◌, length, take, drop, slice_get, IsTrue, IfOk, OnErr, OnOk};
+ghost use Rattle.std.specs.Prelude.{◌≡◌, true, Ok, ℕ, ◌+◌, ◌-◌, ◌<◌, ◌≤◌, ◌^◌, List as ListOf, [], ◌++◌, length, take, drop, slice_get, IsTrue, IfErr, IfOk, OnErr, OnOk};
 ghost use Rattle.commit_counter.specs.Ends.{Fed as FedBy};
 ghost use Rattle.entry_log.specs.Log.{Log};
 ghost use Rattle.owed_egress.specs.Taken.{module_over, sent_over};
@@ -125,6 +125,7 @@ impl<D: Disk> Agent<D> {
         // What was fed of a log stays the log's, where the module has its entries ahead; in a phase that is over nothing is fed.
         ensures log { (log : Log) (begun : ListOf FedBy) → self.now.module.ahead.entries ≡ drop self.now.module.consumed log → Each2 (FeedsFrom log self.now.core.values.rest.commit) begun feeds.old → Each2 (FeedsFrom log self.now.core.values.rest.commit) begun feeds.new }
         ensures stays { self.now.over ≡ true → feeds.new ≡ feeds.old }
+        ensures failed { IfErr result (λ fault. fault ≡ AgentFault.NoMemory) }
     {
         if self.over {
             return Ok(Fed::Over);
@@ -189,6 +190,7 @@ impl<D: Disk> Agent<D> {
         // The module takes the entries ahead up to the commit, each with what the services ask at it by their outboxes.
         ensures state { HaveRising (containers served) → OnOk result (self.new.module.state ≡ module_over (outboxes (containers served)) self.old.module.consumed self.old.module.state (take (self.old.core.values.rest.commit - self.old.module.consumed) self.old.module.ahead.events)) }
         ensures ahead { OnOk result (self.new.module.ahead.entries ≡ drop (self.old.core.values.rest.commit - self.old.module.consumed) self.old.module.ahead.entries) }
+        ensures events { OnOk result (self.new.module.ahead.events ≡ drop (self.old.core.values.rest.commit - self.old.module.consumed) self.old.module.ahead.events) }
         ensures rest { OnOk result (HasConsumed self.old.module self.new.module) }
         // What they owe is given, one entry after the other.
         ensures owed { HaveRising (containers served) → IfOk result (λ sent. sent ≡ sent_over self.old.role (outboxes (containers served)) self.old.module.consumed self.old.module.state (take (self.old.core.values.rest.commit - self.old.module.consumed) self.old.module.ahead.events)) }

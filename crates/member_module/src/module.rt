@@ -298,6 +298,7 @@ impl MemberModule {
     /// answer is that of no memory.
     pub fn advance(&mut self, count: u64) -> Result<(), NoMemory>
         ensures entries { OnOk result (self.new.ahead.entries ≡ drop count self.old.ahead.entries) }
+        ensures events { OnOk result (self.new.ahead.events ≡ drop count self.old.ahead.events) }
         ensures consumed { OnOk result (self.new.consumed ≡ self.old.consumed + count) }
         ensures rest { self.new ≡ record self.old { consumed = self.new.consumed; ahead = self.new.ahead; latest = self.new.latest } }
     {

@@ -1,10 +1,12 @@
 // A phase within one call.
-ghost use Rattle.std.specs.Prelude.{◌≡◌, ◌-◌, ◌<◌, ◌≤◌, List as ListOf, [], true, take, drop, Ok, OnOk, IfOk, IsTrue};
+ghost use Rattle.std.specs.Prelude.{◌≡◌, ◌-◌, ◌<◌, ◌≤◌, List as ListOf, [], true, take, drop, Ok, OnErr, OnOk, IfErr, IfOk, IsTrue};
 ghost use Rattle.cl_base.specs.declared.entry.Entry.{Entry as LogEntry};
 ghost use Rattle.commit_counter.specs.Ends.{Fed as FedBy};
+ghost use Rattle.consensus_agent.specs.Accepted.{OnFault};
 ghost use Rattle.consensus_agent.specs.Consumed.{HasConsumed, outboxes, role_in};
 ghost use Rattle.consensus_agent.specs.Phases.{stage};
 ghost use Rattle.consensus_agent.specs.Rows.{IsKept};
+ghost use Rattle.consensus_agent.specs.Written.{AreWritten, StoppedAmong, phase_snapshots};
 ghost use Rattle.owed_egress.specs.Taken.{module_over, sent_over};
 ghost use Rattle.run_phases.specs.Grown.{Grew};
 ghost use Rattle.run_phases.specs.Logs.{FromToEnd};
@@ -34,6 +36,7 @@ fn drive<R: Wait, D: Disk>(
     ensures ended { Each2 (FedToEnd (stage agent.now.services agent.now.module agent.now.core agent.now.over).commit) feeds.old feeds.new }
     // What was fed of a log is the log's to the end, where the module has its entries ahead.
     ensures log { (log : ListOf LogEntry) (begun : ListOf FedBy) → agent.now.module.ahead.entries ≡ drop agent.now.module.consumed log → Each2 (FeedsFrom log agent.now.core.values.rest.commit) begun feeds.old → Each2 (FromToEnd log agent.now.core.values.rest.commit) begun feeds.new }
+    ensures failed { IfErr result (λ fault. fault ≡ AgentFault.NoMemory) }
 {
     let fed = agent.feed(rt, feeds);
     finish_each(feeds.as_mut_slice());
@@ -70,9 +73,15 @@ pub fn run_phase<
     // The module takes the entries ahead up to the commit, each with what the services ask at it by their outboxes.
     ensures state { OnOk result (agent.new.module.state ≡ module_over (outboxes agent.new.services.kept) agent.old.module.consumed agent.old.module.state (take (agent.old.core.values.rest.commit - agent.old.module.consumed) agent.old.module.ahead.events)) }
     ensures ahead { OnOk result (agent.new.module.ahead.entries ≡ drop (agent.old.core.values.rest.commit - agent.old.module.consumed) agent.old.module.ahead.entries) }
+    ensures events { OnOk result (agent.new.module.ahead.events ≡ drop (agent.old.core.values.rest.commit - agent.old.module.consumed) agent.old.module.ahead.events) }
     ensures rest { OnOk result (HasConsumed agent.old.module agent.new.module) }
     // What they owe is given, one entry after the other, by what the member was as the phase began.
     ensures owed { IfOk result (λ sent. sent ≡ sent_over (role_in agent.old.core.values) (outboxes agent.new.services.kept) agent.old.module.consumed agent.old.module.state (take (agent.old.core.values.rest.commit - agent.old.module.consumed) agent.old.module.ahead.events)) }
+    // Of each snapshot action among these entries the services' snapshots are written, and then the module's.
+    ensures written { OnOk result (AreWritten D.state D.tells D.is_honest (phase_snapshots agent.new.services.kept agent.old.disk.kept.log agent.old.module (agent.old.core.values.rest.commit - agent.old.module.consumed)) agent.old.disk agent.new.disk) }
+    ensures stopped { OnErr result (StoppedAmong D.state D.tells D.is_honest (phase_snapshots agent.new.services.kept agent.old.disk.kept.log agent.old.module (agent.old.core.values.rest.commit - agent.old.module.consumed)) agent.old.disk agent.new.disk) }
+    // A fault of the disk comes after the services consumed all that is committed.
+    ensures failed { (log : ListOf LogEntry) → agent.old.module.ahead.entries ≡ drop agent.old.module.consumed log → Each (IsWithin log agent.old.core.values.rest.commit) agent.old.services.kept → OnFault result (Each (HasAll log agent.old.core.values.rest.commit) agent.new.services.kept) }
     ensures core { agent.new.core ≡ agent.old.core }
     ensures base { agent.new.base ≡ agent.old.base }
     ensures whole { agent.old.module.consumed < agent.old.core.values.rest.commit → OnOk result (IsTrue agent.new.is_whole) }

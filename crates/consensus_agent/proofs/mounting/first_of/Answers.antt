@@ -3,6 +3,7 @@ use Rattle.entry_log.specs.Shape.{shape_of}
 use Rattle.member_disk.specs.Kept.{Kept}
 use Rattle.recording_log.specs.Sets.{HasNoSet}
 use Rattle.consensus_agent.specs.Copies.{IsNewest}
+use Rattle.consensus_agent.proofs.Restoring.{first_from}
 use Rattle.consensus_agent.proofs.Starting.{newest_base, none_newest}
 use Rattle.consensus_agent.proofs.mounting.first_of.Goals as goal
 
@@ -20,3 +21,8 @@ pub returns-in-Ok-clause-base : goal.returns-in-Ok-clause-base
 returns-in-Ok-clause-base g c set is =
     let kept = c.args.disk.now.kept in
     absurd (none_newest kept.services kept.entries set (subst (λ (k : Kept). HasNoSet k.services k.entries) c.durable.ensures c.in-None.ensures) is)
+
+pub returns-in-Ok-clause-on : goal.returns-in-Ok-clause-on
+returns-in-Ok-clause-on g c told =
+    let kept = c.args.disk.now.kept in
+    first_from kept (g.D.Disk.state c.args.disk.now.disk).files c.args.kinds.now c.in-Ok.start (subst (λ (k : Kept). HasNoSet k.services k.entries) c.durable.ensures c.in-None.ensures) c.in-Ok.ensures.first

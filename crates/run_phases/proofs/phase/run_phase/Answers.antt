@@ -15,7 +15,10 @@ use Rattle.run_phases.specs.Grown.{GoesOn, Grew}
 use Rattle.run_phases.proofs.Stages.{begins_runs, may_serve, run_back, ends_due, ends_bound, goes_on_runs}
 use Rattle.run_phases.proofs.Grown.{all_grew, all_none, all_ran, all_rising, all_whole, began_lent, came_grown, forgot_grown, kept_back}
 use Rattle.run_phases.proofs.Fronts.{ahead_same, commit_in, all_ends, all_to_within, back_all, back_within, begun_log, due_all, forgot_within, next_log}
-use Rattle.run_phases.proofs.Results.{on_ok, owed_none, state_none}
+use Rattle.run_phases.proofs.Results.{no_fault, on_fault, on_ok, owed_none, state_none, written_none}
+use Rattle.consensus_agent.specs.Written.{AreWritten, StoppedAmong, phase_snapshots}
+use Rattle.consensus_agent.proofs.Writing.{stopped_none}
+use Rattle.member_disk.specs.Kept.{Held as DiskHeld}
 use Rattle.run_phases.proofs.Short.{any_all, any_within}
 use Rattle.run_phases.proofs.phase.run_phase.Goals as goal
 
@@ -226,3 +229,54 @@ returns-then-have_published-clause-owed g c =
     let F : Role × (List Held × (ModuleHeld × CoreHeld)) → Type 0 =
     λ z. IfOk c.phase_end.result (λ sent. sent ≡ sent_over z.0 (outboxes z.1.0) z.1.1.0.consumed z.1.1.0.state (take (z.1.1.1.values.rest.commit - z.1.1.0.consumed) z.1.1.0.ahead.events)) in
     subst F (λ j. (i.role j, (sym kept j, (i.held j, i.core j)))) (c.phase_end.ensures.owed (all_rising _ _ back (all_whole _ _ ran.ran ended)))
+
+pub returns-then-have_published-clause-written : goal.returns-then-have_published-clause-written
+returns-then-have_published-clause-written g c =
+    let i = c.loop.invariant in
+    let ran = run_back _ _ _ _ _ _ i.runs c.drive-fed.ensures.ended c.lend.ensures c.take_back-served.ensures.ran in
+    let ended : Each HasEndedWell c.take_back-served.result = search rules in
+    let n = c.phase_end.new.self in
+    let kept = ap (λ (l : Lending). l.kept) c.phase_end.ensures.kept in
+    let back = all_grew _ _ (all_ran _ _ _ c.take_back-served.result i.grew i.runs.lent ran.ran) in
+    let F : List Held × ((ModuleHeld × CoreHeld) × DiskHeld g.D) → Type 0 =
+    λ z. OnOk c.phase_end.result (AreWritten g.D.Disk.state g.D.Disk.tells g.D.Disk.is_honest (phase_snapshots z.0 z.1.1.kept.log z.1.0.0 (z.1.0.1.values.rest.commit - z.1.0.0.consumed)) z.1.1 n.disk) in
+    subst F (λ j. (sym kept j, ((i.held j, i.core j), i.disk j))) (c.phase_end.ensures.written (all_rising _ _ back (all_whole _ _ ran.ran ended)))
+
+pub returns-then-have_published-clause-stopped : goal.returns-then-have_published-clause-stopped
+returns-then-have_published-clause-stopped g c =
+    let i = c.loop.invariant in
+    let ran = run_back _ _ _ _ _ _ i.runs c.drive-fed.ensures.ended c.lend.ensures c.take_back-served.ensures.ran in
+    let ended : Each HasEndedWell c.take_back-served.result = search rules in
+    let n = c.phase_end.new.self in
+    let kept = ap (λ (l : Lending). l.kept) c.phase_end.ensures.kept in
+    let back = all_grew _ _ (all_ran _ _ _ c.take_back-served.result i.grew i.runs.lent ran.ran) in
+    let F : List Held × ((ModuleHeld × CoreHeld) × DiskHeld g.D) → Type 0 =
+    λ z. OnErr c.phase_end.result (StoppedAmong g.D.Disk.state g.D.Disk.tells g.D.Disk.is_honest (phase_snapshots z.0 z.1.1.kept.log z.1.0.0 (z.1.0.1.values.rest.commit - z.1.0.0.consumed)) z.1.1 n.disk) in
+    subst F (λ j. (sym kept j, ((i.held j, i.core j), i.disk j))) (c.phase_end.ensures.stopped (all_rising _ _ back (all_whole _ _ ran.ran ended)))
+
+pub returns-then-have_published-clause-failed : goal.returns-then-have_published-clause-failed
+returns-then-have_published-clause-failed g c log is within =
+    let i = c.loop.invariant in
+    let ran = run_back _ _ _ _ _ _ i.runs c.drive-fed.ensures.ended c.lend.ensures c.take_back-served.ensures.ran in
+    let a = c.loop.agent in
+    let kept = ap (λ (l : Lending). l.kept) c.phase_end.ensures.kept in
+    on_fault _ _ (any_all _ _ _ log c.args.agent.now.services.kept c.phase_end.new.self.services.kept c.requires.idle.kept (came_grown _ _ _ _ c.take_back-served.result kept i.grew i.runs.lent ran.ran)
+    (λ long there reach w.
+    back_all long (stage a.services a.«module» a.core a.over) c.args.agent.now.core.values.rest.commit c.loop.feeds c.drive-fed.new.feeds c.take_back-served.result c.phase_end.new.self.services.kept (ap commit_in i.core) kept (i.log long there reach w)
+    (λ fed. c.drive-fed.ensures.log long a.services.begun (ahead_same long _ _ i.held there) fed)
+    (λ lent ends. c.phase_end.ensures.all long lent ends))
+    is within)
+
+-- ---- where nothing was written
+
+pub returns-in_err-feeds-clause-stopped : goal.returns-in_err-feeds-clause-stopped
+returns-in_err-feeds-clause-stopped g c = stopped_none _ _ _ _ _ _ c.phase_begin.ensures.disk
+
+pub returns-in-Err-clause-stopped : goal.returns-in-Err-clause-stopped
+returns-in-Err-clause-stopped g c = stopped_none _ _ _ _ _ _ (c.phase_drop.ensures.disk ∙ c.loop.invariant.disk)
+
+pub returns-then-not-have_ended-clause-stopped : goal.returns-then-not-have_ended-clause-stopped
+returns-then-not-have_ended-clause-stopped g c = stopped_none _ _ _ _ _ _ (c.phase_drop-then-not-have_ended.ensures.disk ∙ c.loop.invariant.disk)
+
+pub returns-in_err-next-clause-stopped : goal.returns-in_err-next-clause-stopped
+returns-in_err-next-clause-stopped g c = stopped_none _ _ _ _ _ _ (c.next_images.ensures.disk ∙ c.loop.invariant.disk)

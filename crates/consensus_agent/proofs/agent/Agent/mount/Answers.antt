@@ -1,5 +1,6 @@
-use Rattle.std.proofs.Common.{◌∙◌, ap, sym, subst, IsTrue, arith}
+use Rattle.std.proofs.Common.{◌≡◌, ◌∙◌, List, length, ap, sym, subst, IsTrue, arith}
 use Rattle.recording_log.specs.Sets.{HasNoSet}
+use Rattle.service_container.specs.Held.{Held as ContainerHeld}
 use Rattle.service_phases.specs.Phases.{Lending}
 use Rattle.cl_base.specs.Runs.{EachImage}
 use Rattle.log_segment.specs.Held.{AreRanged}
@@ -7,6 +8,8 @@ use Rattle.member_disk.specs.Kept.{Kept, Means}
 use Rattle.node_state.specs.Node.{mount_calls}
 use Rattle.consensus_agent.specs.Disks.{HasTerms}
 use Rattle.consensus_agent.proofs.Disking.{each_looked}
+use Rattle.consensus_agent.specs.Restored.{GoOn}
+use Rattle.consensus_agent.proofs.Restoring.{go_there, module_there}
 use Rattle.consensus_agent.proofs.Quiets.{ends_quiet, means_at_end, means_looked}
 use Rattle.consensus_agent.proofs.Sounding.{mounted_sound}
 use Rattle.consensus_agent.proofs.agent.Agent.mount.Goals as goal
@@ -65,3 +68,18 @@ returns-in-Err-clause-means g c honest settled kept reads =
     subst (λ d. EachImage (Means kept) (g.D.Disk.state d).files) (sym c.into_disk.ensures)
     (means_looked g.D.Disk.state g.D.Disk.tells g.D.Disk.is_honest kept c.in_ok-disk.disk c.begin.new.disk c.begin.ensures.looked (g.met.D.Disk.honest_tells c.in_ok-disk.disk.disk there)
     (means_at_end g.D.Disk.state g.D.Disk.moment g.D.Disk.left_since (Means kept) c.args.disk c.in_ok-disk.disk.disk (λ t x le image. g.met.D.Disk.counts_now c.in_ok-disk.disk.disk t x there le image) (c.in_ok-disk.ensures.run honest settled kept reads)))
+
+pub returns-in-Ok-clause-services_from_set : goal.returns-in-Ok-clause-services_from_set
+returns-in-Ok-clause-services_from_set g c told =
+    let first = c.in_ok-disk.disk in
+    let last = c.begin.new.disk in
+    let there = subst IsTrue (sym c.in_ok-disk.ensures.tells) told in
+    subst (λ (cs : List ContainerHeld). GoOn last.kept (g.D.Disk.state last.disk).files c.in-Ok.start.base c.args.kinds.now 0 cs) (sym (ap (λ (l : Lending). l.kept) c.new.ensures))
+    (go_there first.kept last.kept (g.D.Disk.state first.disk).files (g.D.Disk.state last.disk).files c.in-Ok.start.base c.args.kinds.now 0 c.in-Ok.start.containers.items c.begin.ensures.looked.kept (c.begin.ensures.looked.files there) (c.in-Ok.ensures.on there).services)
+
+pub returns-in-Ok-clause-module_from_set : goal.returns-in-Ok-clause-module_from_set
+returns-in-Ok-clause-module_from_set g c told =
+    let first = c.in_ok-disk.disk in
+    let last = c.begin.new.disk in
+    let there = subst IsTrue (sym c.in_ok-disk.ensures.tells) told in
+    module_there first.kept last.kept (g.D.Disk.state first.disk).files (g.D.Disk.state last.disk).files (length c.args.kinds.now) c.in-Ok.start.«module».state c.begin.ensures.looked.kept (c.begin.ensures.looked.files there) (c.in-Ok.ensures.on there).state
