@@ -1,5 +1,5 @@
 -- Free phases from one call to the next.
-use Rattle.std.proofs.Common.{◌≡◌, ℕ, ◌≤◌, ◌<◌, ◌^◌, Bool, true, false, List, [], ◌∷◌, length, refl, sym, ap, ◌∙◌, arith}
+use Rattle.std.proofs.Common.{◌≡◌, ℕ, ◌≤◌, ◌<◌, ◌^◌, Bool, true, false, List, [], ◌∷◌, refl, sym, ap, ◌∙◌, arith}
 use Rattle.commit_counter.specs.Ends.{Fed}
 use Rattle.service_container.specs.declared.container.Served.{Served}
 use Rattle.service_phases.specs.Pairs.{Each, Each2}

@@ -1,17 +1,17 @@
 -- What a phase has of a log, from its beginning to its end.
-use Rattle.std.proofs.Common.{◌≡◌, ℕ, ◌≤◌, List, [], ◌∷◌, ◌++◌, map, length, take, drop, refl, sym, ap, ◌∙◌, subst, arith, length-append}
+use Rattle.std.proofs.Common.{◌≡◌, ℕ, ◌≤◌, List, [], ◌∷◌, ◌++◌, map, length, drop, sym, ap, ◌∙◌, subst, arith, length-append}
 use Rattle.cl_base.specs.declared.entry.Entry.{Entry}
-use Rattle.commit_counter.specs.Ends.{Fed, fed_to, taken_to}
+use Rattle.commit_counter.specs.Ends.{Fed, taken_to}
 use Rattle.service_container.specs.Held.{Held, consumed_to}
 use Rattle.service_container.specs.declared.container.Served.{Served}
 use Rattle.service_phases.specs.Pairs.{Each, Each2}
 use Rattle.service_phases.specs.Feeds.{FeedsFrom, FeedHolds, FeedEnds, Finishes}
 use Rattle.service_phases.specs.Phases.{Began, BeginsAt, Closed, HasAll, IsAt, IsWithin, Lending, RanFor, containers, forgetting, keeping}
-use Rattle.service_phases.specs.Stages.{Begins, IsIdle, Stage, forgot}
+use Rattle.service_phases.specs.Stages.{Begins, IsIdle, Stage}
 use Rattle.service_phases.proofs.FedLog.{begins, ends, holds}
 use Rattle.consensus_core.specs.Fit.{Held as CoreHeld}
 use Rattle.member_module.specs.Held.{Held as ModuleHeld}
-use Rattle.run_phases.specs.Logs.{FeedsLog, FromToEnd, HoldsLog}
+use Rattle.run_phases.specs.Logs.{FeedsLog, FromToEnd}
 use Rattle.run_phases.proofs.Lists.{each_after, each_map, each_weaker, each2_right, each2_then, each2_weaker, each2_with, same_length, written}
 use Rattle.run_phases.proofs.Stages.{left}
 

@@ -1,5 +1,5 @@
 -- Facts at each place of lists.
-use Rattle.std.proofs.Common.{◌≡◌, List, [], ◌∷◌, ◌++◌, map, length, take, drop, refl, sym, ap, subst, arith}
+use Rattle.std.proofs.Common.{◌≡◌, List, [], ◌∷◌, ◌++◌, map, length, take, drop, refl, arith}
 use Rattle.std.proofs.lemmas.Grind.{common_steps}
 use Rattle.service_phases.specs.Pairs.{Each, Each2}
 

@@ -1,5 +1,5 @@
 -- Results that tell of what is so anyway.
-use Rattle.std.proofs.Common.{◌≡◌, inl, ℕ, zero, ◌-◌, Bool, List, [], take, Result, Ok, Err, OnErr, OnOk, refl, sym, ap, ◌∙◌, subst}
+use Rattle.std.proofs.Common.{◌≡◌, ℕ, Bool, List, [], take, Result, Ok, Err, OnOk, sym, ap, ◌∙◌, subst}
 use Rattle.cl_base.specs.Disk.{DiskState}
 use Rattle.commit_counter.specs.declared.role.Role.{Role}
 use Rattle.sbe_events.specs.declared.event.Event.{Event}
@@ -7,11 +7,11 @@ use Rattle.egress.specs.declared.sent.Sent.{Sent}
 use Rattle.module_state.specs.Module.{Module}
 use Rattle.member_disk.specs.Kept.{Held as DiskHeld}
 use Rattle.member_module.specs.Held.{Held as ModuleHeld}
-use Rattle.entry_log.specs.Log.{Log}
+use Rattle.cl_base.specs.declared.entry.Entry.{Entry}
 use Rattle.service_container.specs.Held.{Held}
 use Rattle.owed_egress.specs.Taken.{Outboxes, module_over, sent_over}
 use Rattle.consensus_agent.specs.Accepted.{OnFault}
-use Rattle.consensus_agent.specs.Written.{AreWritten, StoppedAmong, phase_snapshots}
+use Rattle.consensus_agent.specs.Written.{AreWritten, phase_snapshots}
 use Rattle.consensus_agent.specs.declared.fault.AgentFault.{AgentFault}
 use Rattle.consensus_agent.specs.declared.fault.AgentFault.TheVariants as fault
 
@@ -33,10 +33,7 @@ on_fault (Err fault.NoMemory) P p = tt
 on_fault (Err fault.Device) P p = p
 on_fault (Err (fault.Damaged file place)) P p = p
 
-pub no_fault : {A : Type 0} (f : AgentFault) (P : Type 0) → f ≡ fault.NoMemory → OnFault {A} (Err f) P
-no_fault {A} f P is = subst (λ (e : AgentFault). OnFault {A} (Err e) P) (sym is) tt
-
 module _ {D : Type 0} (state : D → DiskState) (is_told is_honest : D → Bool) where
   -- no entry has a snapshot written of it
-  pub written_none : (cs : List Held) (log : Log) (m : ModuleHeld) (n : ℕ) (a b : DiskHeld D) → n ≡ 0 → b ≡ a → AreWritten state is_told is_honest (phase_snapshots cs log m n) a b
+  pub written_none : (cs : List Held) (log : List Entry) (m : ModuleHeld) (n : ℕ) (a b : DiskHeld D) → n ≡ 0 → b ≡ a → AreWritten state is_told is_honest (phase_snapshots cs log m n) a b
   written_none cs log m n a b none same = subst (λ (k : ℕ). AreWritten state is_told is_honest (phase_snapshots cs log m k) a b) (sym none) same

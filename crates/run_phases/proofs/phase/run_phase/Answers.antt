@@ -1,22 +1,21 @@
-use Rattle.std.proofs.Common.{rules, ◌≡◌, ◌-◌, ◌≤◌, ◌∙◌, arith, Ok, OnOk, IfOk, List, [], map, take, drop, sym, ap, subst}
-use Rattle.cl_base.specs.declared.entry.Entry.{Entry}
-use Rattle.consensus_agent.specs.Consumed.{HaveRising, outboxes, role_in}
+use Rattle.std.proofs.Common.{rules, ◌≡◌, ◌-◌, ◌∙◌, arith, OnErr, OnOk, IfOk, List, map, take, sym, ap, subst}
+use Rattle.consensus_agent.specs.Consumed.{outboxes}
 use Rattle.consensus_agent.specs.Phases.{stage}
 use Rattle.consensus_core.specs.Fit.{Held as CoreHeld}
 use Rattle.commit_counter.specs.declared.role.Role.{Role}
-use Rattle.egress.specs.declared.sent.Sent.{Sent}
 use Rattle.member_module.specs.Held.{Held as ModuleHeld}
 use Rattle.owed_egress.specs.Taken.{module_over, sent_over}
 use Rattle.service_container.specs.Held.{Held}
 use Rattle.service_phases.specs.Pairs.{Each, Each2}
 use Rattle.service_phases.specs.Phases.{HasEndedWell, IsWithin, Lending, forgetting}
-use Rattle.service_phases.specs.Stages.{HasRun, Stage}
-use Rattle.run_phases.specs.Grown.{GoesOn, Grew}
+use Rattle.service_phases.specs.Stages.{Stage}
+use Rattle.run_phases.specs.Grown.{GoesOn}
 use Rattle.run_phases.proofs.Stages.{begins_runs, may_serve, run_back, ends_due, ends_bound, goes_on_runs}
 use Rattle.run_phases.proofs.Grown.{all_grew, all_none, all_ran, all_rising, all_whole, began_lent, came_grown, forgot_grown, kept_back}
-use Rattle.run_phases.proofs.Fronts.{ahead_same, commit_in, all_ends, all_to_within, back_all, back_within, begun_log, due_all, forgot_within, next_log}
-use Rattle.run_phases.proofs.Results.{no_fault, on_fault, on_ok, owed_none, state_none, written_none}
+use Rattle.run_phases.proofs.Fronts.{ahead_same, commit_in, all_ends, all_to_within, back_all, back_within, begun_log, forgot_within, next_log}
+use Rattle.run_phases.proofs.Results.{on_fault, on_ok}
 use Rattle.consensus_agent.specs.Written.{AreWritten, StoppedAmong, phase_snapshots}
+use Rattle.consensus_agent.proofs.Running.{on_err}
 use Rattle.consensus_agent.proofs.Writing.{stopped_none}
 use Rattle.member_disk.specs.Kept.{Held as DiskHeld}
 use Rattle.run_phases.proofs.Short.{any_all, any_within}
@@ -238,7 +237,7 @@ returns-then-have_published-clause-written g c =
     let n = c.phase_end.new.self in
     let kept = ap (λ (l : Lending). l.kept) c.phase_end.ensures.kept in
     let back = all_grew _ _ (all_ran _ _ _ c.take_back-served.result i.grew i.runs.lent ran.ran) in
-    let F : List Held × ((ModuleHeld × CoreHeld) × DiskHeld g.D) → Type 0 =
+    let F : List Held × ((ModuleHeld × CoreHeld) × DiskHeld g.row.D.Denot) → Type 0 =
     λ z. OnOk c.phase_end.result (AreWritten g.D.Disk.state g.D.Disk.tells g.D.Disk.is_honest (phase_snapshots z.0 z.1.1.kept.log z.1.0.0 (z.1.0.1.values.rest.commit - z.1.0.0.consumed)) z.1.1 n.disk) in
     subst F (λ j. (sym kept j, ((i.held j, i.core j), i.disk j))) (c.phase_end.ensures.written (all_rising _ _ back (all_whole _ _ ran.ran ended)))
 
@@ -250,7 +249,7 @@ returns-then-have_published-clause-stopped g c =
     let n = c.phase_end.new.self in
     let kept = ap (λ (l : Lending). l.kept) c.phase_end.ensures.kept in
     let back = all_grew _ _ (all_ran _ _ _ c.take_back-served.result i.grew i.runs.lent ran.ran) in
-    let F : List Held × ((ModuleHeld × CoreHeld) × DiskHeld g.D) → Type 0 =
+    let F : List Held × ((ModuleHeld × CoreHeld) × DiskHeld g.row.D.Denot) → Type 0 =
     λ z. OnErr c.phase_end.result (StoppedAmong g.D.Disk.state g.D.Disk.tells g.D.Disk.is_honest (phase_snapshots z.0 z.1.1.kept.log z.1.0.0 (z.1.0.1.values.rest.commit - z.1.0.0.consumed)) z.1.1 n.disk) in
     subst F (λ j. (sym kept j, ((i.held j, i.core j), i.disk j))) (c.phase_end.ensures.stopped (all_rising _ _ back (all_whole _ _ ran.ran ended)))
 
@@ -270,7 +269,7 @@ returns-then-have_published-clause-failed g c log is within =
 -- ---- where nothing was written
 
 pub returns-in_err-feeds-clause-stopped : goal.returns-in_err-feeds-clause-stopped
-returns-in_err-feeds-clause-stopped g c = stopped_none _ _ _ _ _ _ c.phase_begin.ensures.disk
+returns-in_err-feeds-clause-stopped g c = on_err _ (stopped_none _ _ _ _ _ _ c.phase_begin.ensures.disk)
 
 pub returns-in-Err-clause-stopped : goal.returns-in-Err-clause-stopped
 returns-in-Err-clause-stopped g c = stopped_none _ _ _ _ _ _ (c.phase_drop.ensures.disk ∙ c.loop.invariant.disk)
@@ -279,4 +278,4 @@ pub returns-then-not-have_ended-clause-stopped : goal.returns-then-not-have_ende
 returns-then-not-have_ended-clause-stopped g c = stopped_none _ _ _ _ _ _ (c.phase_drop-then-not-have_ended.ensures.disk ∙ c.loop.invariant.disk)
 
 pub returns-in_err-next-clause-stopped : goal.returns-in_err-next-clause-stopped
-returns-in_err-next-clause-stopped g c = stopped_none _ _ _ _ _ _ (c.next_images.ensures.disk ∙ c.loop.invariant.disk)
+returns-in_err-next-clause-stopped g c = on_err _ (stopped_none _ _ _ _ _ _ (c.next_images.ensures.disk ∙ c.loop.invariant.disk))
