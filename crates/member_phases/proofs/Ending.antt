@@ -46,7 +46,7 @@ module _ (n : ℕ) (kinds : List Kind) (w : RunWorld) (m : ℕ) (lawful : Lawful
       both (nat_lt m (length (with_seat m t w).seats)) (seat (with_seat m t w) m).member.up (grind (arith, nat_tests, l)) (ap (λ (z : Seat). z.member.up) (seat-there w m t low) ∙ on)
 
   -- it begins
-  begins : does kinds w (Begins m) ≡ with_seat m (opened s) w
+  pub begins : does kinds w (Begins m) ≡ with_seat m (opened s) w
   begins =
       let here : is_up w m ≡ true = (let l = low in both (nat_lt m (length w.seats)) s.member.up (grind (arith, nat_tests, l)) up) in
       ap (λ (b : Bool). if b then put m (opened s) [] w else w) (both (is_up w m) (is_resting s.phase) here (ap is_resting rests))

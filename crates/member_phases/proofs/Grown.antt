@@ -32,7 +32,7 @@ pub state-append : (s : Shipped) (i : ℕ) (xs ys : List Entry) → state_from s
 state-append s i [] ys = ap (λ (k : ℕ). state_from s k ys) (sym (add-zero i))
 state-append s i (x ∷ xs) ys = state-append (at_entry s i x).0 (i + 1) xs ys ∙ ap (λ (k : ℕ). state_from (state_from (at_entry s i x).0 (i + 1) xs) k ys) (further i (length xs))
 
-records-append : (s : Shipped) (i : ℕ) (xs ys : List Entry) → records_from s i (xs ++ ys) ≡ records_from s i xs ++ records_from (state_from s i xs) (i + length xs) ys
+pub records-append : (s : Shipped) (i : ℕ) (xs ys : List Entry) → records_from s i (xs ++ ys) ≡ records_from s i xs ++ records_from (state_from s i xs) (i + length xs) ys
 records-append s i [] ys = ap (λ (k : ℕ). records_from s k ys) (sym (add-zero i))
 records-append s i (x ∷ xs) ys =
     let t = (at_entry s i x).0 in

@@ -61,7 +61,7 @@ log-formed n kinds w m five three lawful =
 
 -- ---- the services before
 
-inputs-count : (kinds : List Kind) (base : ℕ) (log : Log) (number : ℕ) (cs : List ContainerHeld) (xss : List Log) → HaveInputs kinds base log number cs xss → length xss ≡ length kinds
+pub inputs-count : (kinds : List Kind) (base : ℕ) (log : Log) (number : ℕ) (cs : List ContainerHeld) (xss : List Log) → HaveInputs kinds base log number cs xss → length xss ≡ length kinds
 inputs-count [] base log number [] [] have = refl
 inputs-count [] base log number [] (xs ∷ xss) have = absurd have
 inputs-count [] base log number (c ∷ cs) xss have = absurd have
@@ -86,7 +86,7 @@ module _ (x : Member) (base applied : ℕ) (low : base ≤ length x.durable.log)
         due = (let a = at.place in omega (arith, a, due));
       }
 
-  all-within : (kinds : List Kind) (number : ℕ) (cs : List ContainerHeld) (xss : List Log) → HaveInputs kinds base log number cs xss → Each (IsAt applied) cs → Each (IsFront x) xss → Each (IsWithin log x.values.rest.commit) cs
+  pub all-within : (kinds : List Kind) (number : ℕ) (cs : List ContainerHeld) (xss : List Log) → HaveInputs kinds base log number cs xss → Each (IsAt applied) cs → Each (IsFront x) xss → Each (IsWithin log x.values.rest.commit) cs
   all-within [] number [] [] have at fronts = tt
   all-within [] number [] (xs ∷ xss) have at fronts = absurd have
   all-within [] number (c ∷ cs) xss have at fronts = absurd have

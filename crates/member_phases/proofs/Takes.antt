@@ -27,10 +27,10 @@ IsAt w m s = (m < length w.seats) × (seat w m ≡ s) × (length (committed s.me
 abbrev pub Feeds : List Kind → Seat → Seat → Type 0
 Feeds kinds s t = (ks : List ℕ) × ((w : RunWorld) (m : ℕ) → IsAt w m s → after_acts kinds w (consume m ks) ≡ with_seat m t w)
 
-feeds-none : (kinds : List Kind) (s : Seat) → Feeds kinds s s
+pub feeds-none : (kinds : List Kind) (s : Seat) → Feeds kinds s s
 feeds-none kinds s = ([], λ w m at. sym (ap (λ (t : Seat). with_seat m t w) (sym at.1) ∙ own-seat w m))
 
-feeds-on : (kinds : List Kind) (s t v : Seat) → t.member ≡ s.member → Feeds kinds s t → Feeds kinds t v → Feeds kinds s v
+pub feeds-on : (kinds : List Kind) (s t v : Seat) → t.member ≡ s.member → Feeds kinds s t → Feeds kinds t v → Feeds kinds s v
 feeds-on kinds s t v same a b = (
   a.0 ++ b.0,
   λ w m at.
@@ -50,7 +50,7 @@ may x run k up there low =
     both x.up (nat_lt k (length run.inputs) && nat_lt (length (input_of run k)) x.values.rest.commit) up
     (both (nat_lt k (length run.inputs)) (nat_lt (length (input_of run k)) x.values.rest.commit) (grind (arith, nat_tests, there)) (grind (arith, nat_tests, low)))
 
-feeds-one : (kinds : List Kind) (s : Seat) (k : ℕ) (role : Option ℤ) (over : Bool) → s.member.up ≡ true → s.phase ≡ Goes role over → length s.run.inputs ≡ length kinds → k < length s.run.inputs → length (input_of s.run k) < s.member.values.rest.commit
+pub feeds-one : (kinds : List Kind) (s : Seat) (k : ℕ) (role : Option ℤ) (over : Bool) → s.member.up ≡ true → s.phase ≡ Goes role over → length s.run.inputs ≡ length kinds → k < length s.run.inputs → length (input_of s.run k) < s.member.values.rest.commit
     → Feeds kinds s (fed k s)
 feeds-one kinds s k role over up goes count there low = (k ∷ [], one)
   where
@@ -73,14 +73,14 @@ feeds-one kinds s k role over up goes count there low = (k ∷ [], one)
 
 -- ---- one service
 
-abbrev with_inputs : Seat → List Log → Seat
+abbrev pub with_inputs : Seat → List Log → Seat
 with_inputs s l = record s { run = record s.run { inputs = l } }
 
-get-mid : (done : List Log) (xs : Log) (rest : List Log) → slice_index_or (done ++ xs ∷ rest) (length done) [] ≡ xs
+pub get-mid : (done : List Log) (xs : Log) (rest : List Log) → slice_index_or (done ++ xs ∷ rest) (length done) [] ≡ xs
 get-mid [] xs rest = refl
 get-mid (d ∷ done) xs rest = get-mid done xs rest
 
-set-mid : (done : List Log) (xs ys : Log) (rest : List Log) → set (done ++ xs ∷ rest) (length done) ys ≡ done ++ ys ∷ rest
+pub set-mid : (done : List Log) (xs ys : Log) (rest : List Log) → set (done ++ xs ∷ rest) (length done) ys ≡ done ++ ys ∷ rest
 set-mid [] xs ys rest = refl
 set-mid (d ∷ done) xs ys rest = ap (λ (l : List Log). d ∷ l) (set-mid done xs ys rest)
 
@@ -90,13 +90,13 @@ take-more j [] low = absurd (omega (arith, low))
 take-more zero (x ∷ log) low = refl
 take-more (suc j) (x ∷ log) low = ap (λ (l : Log). x ∷ l) (take-more j log (omega (arith, low)))
 
-next-is : (j : ℕ) (log : Log) → j < length log → with_next (take j log) log ≡ take (suc j) log
+pub next-is : (j : ℕ) (log : Log) → j < length log → with_next (take j log) log ≡ take (suc j) log
 next-is j log low = ap (λ (k : ℕ). take j log ++ take 1 (drop k log)) (take-length j log (omega (arith, low))) ∙ take-more j log low
 
-mid-there : (done : List Log) (xs : Log) (rest : List Log) → length done < length (done ++ xs ∷ rest)
+pub mid-there : (done : List Log) (xs : Log) (rest : List Log) → length done < length (done ++ xs ∷ rest)
 mid-there done xs rest = let e = length-append done (xs ∷ rest) in omega (arith, e)
 
-mid-count : (done : List Log) (xs ys : Log) (rest : List Log) → length (done ++ ys ∷ rest) ≡ length (done ++ xs ∷ rest)
+pub mid-count : (done : List Log) (xs ys : Log) (rest : List Log) → length (done ++ ys ∷ rest) ≡ length (done ++ xs ∷ rest)
 mid-count done xs ys rest = length-append done (ys ∷ rest) ∙ sym (length-append done (xs ∷ rest))
 
 module _ (kinds : List Kind) (s : Seat) (role : Option ℤ) (over : Bool) (up : s.member.up ≡ true) (goes : s.phase ≡ Goes role over) (within : s.member.values.rest.commit ≤ length s.member.durable.log) where

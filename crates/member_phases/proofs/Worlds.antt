@@ -75,7 +75,7 @@ front-is (x ∷ xs) (y ∷ l) lead = (λ i. lead.0 i ∷ front-is xs l lead.1 i)
 
 -- ---- a seat that is set
 
-set-set : (xs : List Seat) (m : ℕ) (s t : Seat) → set (set xs m s) m t ≡ set xs m t
+pub set-set : (xs : List Seat) (m : ℕ) (s t : Seat) → set (set xs m s) m t ≡ set xs m t
 set-set [] m s t = refl
 set-set (x ∷ xs) zero s t = refl
 set-set (x ∷ xs) (suc m) s t = ap (λ (l : List Seat). x ∷ l) (set-set xs m s t)

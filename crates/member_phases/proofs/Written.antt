@@ -42,7 +42,7 @@ use Rattle.member_phases.proofs.Puts.{NamedIn, any-there, counts, named-head, no
 same-nat : (a b : ℕ) → a ≡ b → nat_eq a b ≡ true
 same-nat a b e = grind (arith, nat_tests, e)
 
-nat-same : (a b : ℕ) → nat_eq a b ≡ true → a ≡ b
+pub nat-same : (a b : ℕ) → nat_eq a b ≡ true → a ≡ b
 nat-same a b e = grind (arith, nat_tests, e)
 
 same-int : (a b : ℤ) → a ≡ b → same_term a b ≡ true
@@ -64,7 +64,7 @@ either-false false b e = (refl, e)
 
 module _ (kinds : List Kind) (log : Log) (few : length kinds ≤ 3) (formed : IsWellFormedOn kinds log) where
   -- the others' files stay
-  others-stored : (f g : ℕ → FileState) (e : SnapshotEntry) → NamedIn kinds log e → ((n : ℕ) → 258 ≤ n → (n ≡ 258 + e.recording → ⊥) → g n ≡ f n) → (es : List RecEntry) (ts : List SnapshotEntry)
+  pub others-stored : (f g : ℕ → FileState) (e : SnapshotEntry) → NamedIn kinds log e → ((n : ℕ) → 258 ≤ n → (n ≡ 258 + e.recording → ⊥) → g n ≡ f n) → (es : List RecEntry) (ts : List SnapshotEntry)
       → Each2 (IsStored f) es ts → Each (NamedIn kinds log) ts → list_any (same_entry e) ts ≡ false → Each2 (IsStored g) es ts
   others-stored f g e name same [] [] each named none = each
   others-stored f g e name same [] (t ∷ ts) each named none = absurd each

@@ -6,7 +6,7 @@ use Rattle.entry_log.specs.Log.{Log}
 use Rattle.consensus_agent.specs.Consumed.{HasConsumed, outboxes, role_in}
 use Rattle.consensus_agent.specs.Phases.{stage}
 use Rattle.member_rows.specs.Calls.{GoesOn}
-use Rattle.consensus_agent.specs.Written.{Snapshot, AreWritten, phase_snapshots}
+use Rattle.consensus_agent.specs.Written.{Snapshot, AreWritten, StoppedAmong, phase_snapshots}
 use Rattle.owed_egress.specs.Taken.{module_over, sent_over}
 use Rattle.run_orders.specs.Stands.{UpSeen}
 use Rattle.run_phases.specs.Grown.{Grew}
@@ -49,4 +49,12 @@ module _ {D : Type 0} (state_in : D → DiskState) (is_told is_honest : D → Bo
     pub owed : sent ≡ sent_over (role_in u.core.values) (outboxes v.lending.kept) u.module_held.consumed u.module_held.state (take (behind u) u.module_held.ahead.events)
     pub written : AreWritten state_in is_told is_honest (snapshots_due u v) u.disk v.disk
     pub core : v.core ≡ u.core
+    pub base : v.base ≡ u.base
+
+  -- A phase in which something was due ran, until a fault of the disk ended it as its snapshots were put: clauses of these names of `run_phase`, where it answers Device (`all` is its clause `failed`).
+  pub record PhaseCut (u v : UpSeen D) : Type 0 where
+    pub was : IsBetween u
+    pub grew : Each2 Grew u.lending.kept v.lending.kept
+    pub all : (log : Log) → u.module_held.ahead.entries ≡ drop u.module_held.consumed log → Each (IsWithin log (commit_of u)) u.lending.kept → Each (HasAll log (commit_of u)) v.lending.kept
+    pub stopped : StoppedAmong state_in is_told is_honest (snapshots_due u v) u.disk v.disk
     pub base : v.base ≡ u.base

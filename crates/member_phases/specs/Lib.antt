@@ -1,4 +1,6 @@
 pub mod Calls
+pub mod Cuts
+pub mod Frees
 pub mod Grown
 pub mod Phases
 pub mod Seats
