@@ -1,14 +1,9 @@
 -- What a member is seen as.
-use Rattle.std.proofs.Common.{◌≡◌, ℕ, Bool, true, false, Some, refl, sym, subst, ap, ◌∙◌}
+use Rattle.std.proofs.Common.{◌≡◌, ℕ, Bool, Some, refl, sym, subst, ap, ◌∙◌}
 use Rattle.std.specs.Prelude.{IsTrue}
 use Rattle.cl_base.specs.Disk.{DiskState}
 use Rattle.run_orders.specs.Stands.{UpSeen}
 use Rattle.run_seats.specs.Seen.{IsFused, IsLooked, IsRead, MemberSeen}
-
-both_true : (a b : Bool) → IsTrue a → IsTrue b → b ≡ a
-both_true true true x y = refl
-both_true true false x y = absurd y
-both_true false b x y = absurd x
 
 module _ {D : Type 0} where
   pub was_read : (a b : MemberSeen D) → b.seen.disk.kept ≡ a.seen.disk.kept → b.seen.core ≡ a.seen.core → b.seen.module_held ≡ a.seen.module_held → b.seen.lending ≡ a.seen.lending → b.seen.base ≡ a.seen.base → b.seen.role ≡ a.seen.role
@@ -37,7 +32,7 @@ module _ {D : Type 0} where
       → v.base ≡ u.base → v.role ≡ u.role → v.over ≡ u.over → is_told v.disk.disk ≡ is_told u.disk.disk → is_honest v.disk.disk ≡ is_honest u.disk.disk → (IsTrue (is_told u.disk.disk) → state v.disk.disk ≡ record (state u.disk.disk) { lets = Some calls })
       → IsFused state is_told is_honest calls u v
   was_fused state is_told is_honest calls u v was is kept core own lending base role over tells honest set = record {
-    rest = let whole = both_true u.disk.whole v.disk.whole was is in
+    rest = let whole : v.disk.whole ≡ u.disk.whole = is ∙ sym was in
         λ i. record { core = core i; disk = record { kept = kept i; whole = whole i; disk = v.disk.disk }; module_held = own i; lending = lending i; role = role i; base = base i; over = over i };
     tells = tells;
     honest = honest;

@@ -3,6 +3,7 @@ use Rattle.std.specs.Prelude.{◌≡◌, ℕ, ◌≤◌, Bool, false, IsTrue, �
 use Rattle.cl_base.specs.Disk.{CrashLeaves, DiskState}
 use Rattle.cl_base.specs.declared.disk.Choice.{Choice}
 use Rattle.cl_base.specs.declared.disk.Choice.TheVariants.{Keep}
+use Rattle.member_phases.specs.Calls.{PhaseCut}
 use Rattle.member_rows.specs.Places.{run_ended}
 use Rattle.run_orders.specs.Stands.{Down, Up, UpSeen}
 use Rattle.run_outside.specs.declared.outside.Outside.{Outside}
@@ -43,5 +44,5 @@ module _ {D : Type 0} (state : D → DiskState) (is_told is_honest : D → Bool)
   -- a member had a phase, or its disk failed in it and it stopped
   abbrev pub SeatPhased : UpSeen D → SeatHeld D → SeatHeld D → Took → Outside → Outside → Type 0
   SeatPhased u s t (took.Taken outcome) a b = (v : UpSeen D) × (Phased state is_told is_honest u v a b × (t ≡ up_held s v))
-  SeatPhased u s t took.Stopped a b = (v : UpSeen D) × Crashed s.choice v s t
+  SeatPhased u s t took.Stopped a b = (v : UpSeen D) × (PhaseCut state is_told is_honest u v × Crashed s.choice v s t × (b ≡ a))
   SeatPhased u s t took.Down a b = ⊥

@@ -1,6 +1,7 @@
 // A running member between its phases.
 ghost use Rattle.std.specs.Prelude.{◌≡◌, [], IsTrue, IfOk, IfErr, OnOk};
 ghost use Rattle.cluster_backup.specs.Spelling.{HasSpelling};
+ghost use Rattle.member_phases.specs.Calls.{PhaseCut};
 ghost use Rattle.run_outside.specs.Gives.{with_records};
 ghost use Rattle.run_seats.specs.Asked.{Asked, Cut};
 ghost use Rattle.run_seats.specs.Failed.{IfFailed};
@@ -124,6 +125,7 @@ impl<D: Disk> Idle<D> {
         outside: &mut Outside,
     ) -> Result<Idle<D>, Failed<D>>
         ensures phased { IfOk result (λ r. Phased D.state D.tells D.is_honest self r outside.old outside.new) }
+        ensures cut { IfFailed result (λ v. PhaseCut D.state D.tells D.is_honest self v × (outside.new ≡ outside.old)) }
     {
         let (member, lanes) = self.into_parts();
         let mut member = member;

@@ -1,5 +1,7 @@
 // The phases of a running member.
 ghost use Rattle.std.specs.Prelude.{◌≡◌, [], true, false, IsTrue, OnOk, IfOk};
+ghost use Rattle.consensus_agent.specs.Accepted.{OnFault};
+ghost use Rattle.member_phases.specs.Calls.{PhaseCut};
 ghost use Rattle.run_phases.specs.Frees.{IsFree, IsGoing};
 ghost use Rattle.run_seats.specs.Phased.{PhaseRan};
 ghost use Rattle.run_seats.specs.Seen.{stage_of};
@@ -20,6 +22,7 @@ use std::thread::Threads;
 
 impl<D: Disk> Member<D> {
     /// A whole phase: the services consume what is committed. Gives the records that go out.
+    #[tactic(auto, using(crate::proofs::Phasing::phase_fell))]
     pub(crate) fn phase<R: Threads + Wait + Copy + Send + Sync + 'static>(
         &mut self,
         rt: &R,
@@ -32,6 +35,7 @@ impl<D: Disk> Member<D> {
         ensures none { lanes.new ≡ [] }
         ensures whole { IsTrue self.old.whole → OnOk result (IsTrue self.new.whole) }
         ensures ran { IsTrue self.old.whole → IfOk result (PhaseRan D.state D.tells D.is_honest self.old.seen self.new.seen) }
+        ensures cut { IsTrue self.old.whole → OnFault result (PhaseCut D.state D.tells D.is_honest self.old.seen self.new.seen) }
     {
         run_phase(rt, alloc, &mut self.agent, lanes)
     }

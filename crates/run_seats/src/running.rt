@@ -2,6 +2,7 @@
 ghost use Rattle.std.specs.Prelude.{◌≡◌, true, false, Ok, IfOk, OnOk, slice_get};
 ghost use Rattle.consensus_agent.specs.Consumed.{inputs_of};
 ghost use Rattle.cluster_backup.specs.Spelling.{HasSpelling};
+ghost use Rattle.member_phases.specs.Calls.{PhaseCut};
 ghost use Rattle.run_seats.specs.Asked.{Asked, Cut, with_printed};
 ghost use Rattle.run_seats.specs.Failed.{IfFailed};
 ghost use Rattle.run_seats.specs.Phased.{Phased};
@@ -160,6 +161,7 @@ impl<D: Disk> Running<D> {
     ) -> Result<Running<D>, Failed<D>>
         ensures going { IfOk result (λ r. r.going ≡ self.going) }
         ensures phased { self.going ≡ false → IfOk result (λ r. Phased D.state D.tells D.is_honest self.member r.member outside.old outside.new) }
+        ensures cut { self.going ≡ false → IfFailed result (λ v. PhaseCut D.state D.tells D.is_honest self.member v × (outside.new ≡ outside.old)) }
         ensures goes_on { self.going ≡ true → (result ≡ Ok self) × (outside.new ≡ outside.old) }
     {
         match self.state {

@@ -1,5 +1,5 @@
 // One member of a run, with its disk.
-ghost use Rattle.std.specs.Prelude.{◌≡◌, ◌≤◌, ◌^◌, [], Bool, true, false, map, IfOk, OnOk};
+ghost use Rattle.std.specs.Prelude.{◌≡◌, ◌≤◌, ◌^◌, [], Bool, true, false, map, IfErr, IfOk, OnOk};
 ghost use Rattle.run_orders.specs.Stands.{Down, Up, UpSeen};
 ghost use Rattle.run_seats.specs.Seats.{ended_seen};
 ghost use Rattle.run_seats.specs.Failed.{NotMemory};
@@ -200,7 +200,10 @@ impl<D: Disk + Drop> Seat<D> {
         &mut self,
         alloc: Global,
         stepped: Result<Running<D>, Failed<D>>,
-    ) -> Result<Took, NoMemory> {
+    ) -> Result<Took, NoMemory>
+        ensures done { IfOk stepped (λ r. (result ≡ Ok (Took.Taken None)) × (self.new ≡ record self.old { home = Some (Up r.member r.going) })) }
+        ensures failed { IfErr stepped (λ f. IfOk result (λ took. (took ≡ Took.Stopped) × NotMemory f.fault × Crashed D.state D.tells D.is_honest self.old.choice f.member.seen self.old self.new)) }
+    {
         match stepped {
             Ok(running) => {
                 self.home = Home::Up(running);
