@@ -1,4 +1,4 @@
 pub mod Answering
 pub mod Seen
-pub mod Ended
+pub mod Keeping
 pub mod Phasing

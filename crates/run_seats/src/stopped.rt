@@ -17,7 +17,7 @@ pub(crate) struct Stopped<D: Disk> {
 
 impl<D: Disk> Stopped<D> {
     /// Keeps what the services consumed in the run of this number.
-    #[tactic(auto, using(crate::proofs::Ended::kept_more))]
+    #[tactic(auto, using(crate::proofs::Keeping::kept_more))]
     pub(crate) fn keep_inputs(
         &self,
         alloc: Global,

@@ -16,7 +16,7 @@ ended_in base c = record { from = base; inputs = c.inputs }
 
 next_of : (base n : ℕ) (cs : List Held) (c : Held) → n < length cs → get_or cs n c ≡ c → take (n + 1) (map (ended_in base) cs) ≡ take n (map (ended_in base) cs) ++ ended_in base c ∷ []
 next_of base n cs c lt got =
-    let long : n < length (map (ended_in base) cs) = omega (arith, length-map (ended_in base) cs) in
+    let long : n < length (map (ended_in base) cs) = omega (arith, length-map cs (ended_in base)) in
     let e : get_or (map (ended_in base) cs) n (ended_in base c) ≡ ended_in base c = get_or-map (ended_in base) cs n c (ended_in base c) lt ∙ ap (ended_in base) got in
     rw add-one (take-suc (map (ended_in base) cs) n (ended_in base c) long ∙ ap (λ x. take n (map (ended_in base) cs) ++ x ∷ []) e)
 
@@ -27,8 +27,8 @@ kept_more u n xs ys r old push lt have from inputs =
     elim ((slice_get_cases u.lending.kept n).1) as (λ _. map ended_seen ys ≡ old ++ take (n + 1) (run_ended u false)) [
       inl some ↦
         let c = some.0 in
-        let seen : ended_seen r ≡ ended_in u.base c = λ i. record { from = from i; inputs = (inputs ∙ ap inputs_of some.1.1) i } in
+        let seen : ended_seen r ≡ ended_in u.base c = λ i. record { from = from i; inputs = (inputs ∙ ap inputs_of some.2) i } in
         ap (map ended_seen) push ∙ map-append ended_seen xs (r ∷ []) ∙ ap (λ l. l ++ ended_seen r ∷ []) have ∙ append_assoc old (take n (run_ended u false)) (ended_seen r ∷ [])
-        ∙ ap (λ l. old ++ l) (ap (λ e. take n (run_ended u false) ++ e ∷ []) seen ∙ sym (next_of u.base n u.lending.kept c lt some.1.2))
+        ∙ ap (λ l. old ++ l) (ap (λ e. take n (run_ended u false) ++ e ∷ []) seen ∙ sym (next_of u.base n u.lending.kept c lt some.3))
     | inr none ↦ absurd (let low = none.0 in omega arith)
     ]
