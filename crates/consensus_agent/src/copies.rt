@@ -4,6 +4,7 @@ ghost use Rattle.recording_log.specs.Sets.{HasNoSet};
 ghost use Rattle.snapshot_store.specs.Snapshots.{ArePieces};
 ghost use Rattle.member_disk.specs.Changes.{HasSome, IsMemberOf};
 ghost use Rattle.consensus_agent.specs.Copies.{IsLike, IsNewest};
+ghost use Rattle.consensus_agent.specs.Disks.{Looked};
 ghost use Rattle.consensus_agent.specs.Faults.{HasCause, IsNoDamage};
 
 use crate::agent::Agent;
@@ -22,6 +23,7 @@ impl<D: Disk> Agent<D> {
         ensures exact { IsTrue (D.tells self.old.disk.disk) → IfOk result (λ x. slice_get self.old.disk.kept.log index ≡ Some x) }
         ensures undamaged { IsTrue (D.tells self.old.disk.disk) → IfErr result IsNoDamage }
         ensures cause { HasCause (D.fault_count self.old.disk.disk) (D.fault_count self.new.disk.disk) result }
+        ensures looked { Looked D.state D.tells D.is_honest self.old.disk self.new.disk }
         ensures kept { self.new.disk.kept ≡ self.old.disk.kept }
         ensures core { self.new.core ≡ self.old.core }
         ensures module { self.new.module ≡ self.old.module }
@@ -63,6 +65,7 @@ impl<D: Disk> Agent<D> {
         ensures high { IfOk result (λ s. s.term ≤ℤ pos (2 ^ 62)) }
         ensures placed { IfOk result (λ s. s.position ≤ 2 ^ 62) }
         ensures cause { HasCause (D.fault_count self.old.disk.disk) (D.fault_count self.new.disk.disk) result }
+        ensures looked { Looked D.state D.tells D.is_honest self.old.disk self.new.disk }
         ensures kept { self.new.disk.kept ≡ self.old.disk.kept }
         ensures core { self.new.core ≡ self.old.core }
         ensures module { self.new.module ≡ self.old.module }
