@@ -1,2 +1,4 @@
 pub mod Answering
 pub mod Seen
+pub mod Keeping
+pub mod Phasing

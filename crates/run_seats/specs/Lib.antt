@@ -2,3 +2,8 @@ pub mod Going
 pub mod Calls
 pub mod Seen
 pub mod Asked
+pub mod Failed
+pub mod Phased
+pub mod Running
+pub mod Seats
+pub mod Steps

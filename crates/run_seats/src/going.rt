@@ -1,9 +1,10 @@
 // A running member whose phase goes on over its calls.
+ghost use Rattle.std.specs.Prelude.{IsTrue, IfOk};
 ghost use Rattle.cluster_backup.specs.Spelling.{HasSpelling};
 ghost use Rattle.run_phases.specs.Frees.{IsFree, IsGoing};
-ghost use Rattle.run_seats.specs.Seen.{stage_of};
+ghost use Rattle.run_seats.specs.Seen.{IsLooked, stage_of};
 
-use crate::calls::Call;
+use crate::asking::Call;
 use crate::idle::Idle;
 use crate::member::Member;
 use crate::stopped::Failed;
@@ -19,7 +20,8 @@ use std::marker::Model;
 use std::sync::Wait;
 use std::thread::Threads;
 
-/// A running member whose phase goes on over its calls. All that it has committed is published. Contracts see its commit.
+/// A running member whose phase goes on over its calls. All that it has committed is published, and no call failed.
+/// Contracts see of it what stands to the world of a run.
 #[derive(Drop)]
 pub(crate) struct Going<D: Disk> {
     pub(crate) member: Member<D>,
@@ -27,15 +29,16 @@ pub(crate) struct Going<D: Disk> {
 }
 
 impl<D: Disk> Model for Going<D> {
-    ghost use Rattle.std.specs.Prelude.{ℕ};
+    ghost use Rattle.std.specs.Prelude.{IsTrue};
+    ghost use Rattle.run_orders.specs.Stands.{UpSeen};
     ghost use Rattle.run_seats.specs.Going.{GoesOn};
     ghost use Rattle.run_seats.specs.Seen.{stage_of};
 
-    ghost Value = { ℕ };
+    ghost Value = { UpSeen D };
 
-    ghost view = { λ m. m.member.seen.core.values.rest.commit };
+    ghost view = { λ m. m.member.seen };
 
-    ghost invariant = { λ m. GoesOn (stage_of m.member) m.phase };
+    ghost invariant = { λ m. GoesOn (stage_of m.member) m.phase × IsTrue m.member.whole };
 }
 
 /// Feeds a phase what is committed. One that is over ends, its records are sent, and another begins.
@@ -47,6 +50,7 @@ fn feed<R: Threads + Wait + Copy + Send + Sync + 'static, D: Disk>(
 ) -> Result<Going<D>, Failed<D>>
     requires free { IsFree (stage_of member) phase }
     requires going { IsGoing (stage_of member) phase.feeds }
+    requires whole { IsTrue member.whole }
 {
     let mut member = member;
     let mut phase = phase;
@@ -69,6 +73,7 @@ fn end<R: Threads + Wait + Copy + Send + Sync + 'static, D: Disk>(
 ) -> Result<Idle<D>, Failed<D>>
     requires free { IsFree (stage_of member) phase }
     requires going { IsGoing (stage_of member) phase.feeds }
+    requires whole { IsTrue member.whole }
 {
     let mut member = member;
     match member.end(rt, outside.alloc, phase) {
@@ -107,6 +112,7 @@ impl<D: Disk> Going<D> {
         query: &BackupPacket,
     ) -> Result<(Going<D>, List<Bytes>), Failed<D>>
         requires { HasSpelling query.now }
+        ensures { IfOk result (λ r. IsLooked self r.0) }
     {
         let Going { member, phase } = self;
         let mut member = member;

@@ -1,10 +1,15 @@
 // A running member between its phases.
-ghost use Rattle.std.specs.Prelude.{◌≡◌, []};
+ghost use Rattle.std.specs.Prelude.{◌≡◌, [], IsTrue, IfOk, IfErr, OnOk};
 ghost use Rattle.cluster_backup.specs.Spelling.{HasSpelling};
-ghost use Rattle.run_seats.specs.Seen.{stage_of};
+ghost use Rattle.member_phases.specs.Calls.{PhaseCut};
+ghost use Rattle.run_outside.specs.Gives.{with_records};
+ghost use Rattle.run_seats.specs.Asked.{Asked, Cut};
+ghost use Rattle.run_seats.specs.Failed.{IfFailed};
+ghost use Rattle.run_seats.specs.Phased.{Phased};
+ghost use Rattle.run_seats.specs.Seen.{IsLooked, stage_of};
 ghost use Rattle.service_phases.specs.Stages.{IsIdle};
 
-use crate::calls::Call;
+use crate::asking::Call;
 use crate::going::Going;
 use crate::member::Member;
 use crate::stopped::Failed;
@@ -21,7 +26,7 @@ use std::marker::Model;
 use std::sync::Wait;
 use std::thread::Threads;
 
-/// A running member of which no phase runs. Contracts see its commit.
+/// A running member of which no phase runs, and no call failed. Contracts see of it what stands to the world of a run.
 #[derive(Drop)]
 pub(crate) struct Idle<D: Disk> {
     pub(crate) member: Member<D>,
@@ -30,15 +35,16 @@ pub(crate) struct Idle<D: Disk> {
 }
 
 impl<D: Disk> Model for Idle<D> {
-    ghost use Rattle.std.specs.Prelude.{◌≡◌, ℕ, []};
+    ghost use Rattle.std.specs.Prelude.{◌≡◌, [], IsTrue};
+    ghost use Rattle.run_orders.specs.Stands.{UpSeen};
     ghost use Rattle.run_seats.specs.Seen.{stage_of};
     ghost use Rattle.service_phases.specs.Stages.{IsIdle};
 
-    ghost Value = { ℕ };
+    ghost Value = { UpSeen D };
 
-    ghost view = { λ m. m.member.seen.core.values.rest.commit };
+    ghost view = { λ m. m.member.seen };
 
-    ghost invariant = { λ m. IsIdle (stage_of m.member) × (m.lanes ≡ []) };
+    ghost invariant = { λ m. IsIdle (stage_of m.member) × IsTrue m.member.whole × (m.lanes ≡ []) };
 }
 
 impl<D: Disk> Idle<D> {
@@ -47,7 +53,13 @@ impl<D: Disk> Idle<D> {
         self,
         outside: &mut Outside,
         records: List<Sent>,
-    ) -> Result<Idle<D>, Failed<D>> {
+    ) -> Result<Idle<D>, Failed<D>>
+        ensures same { IfOk result (λ r. r ≡ self) }
+        ensures memory { IfErr result (λ f. f.fault ≡ AgentFault.NoMemory) }
+        ensures egress { OnOk result (outside.new.egress ≡ with_records records outside.old.egress) }
+        ensures net { outside.new.net ≡ outside.old.net }
+        ensures printed { outside.new.printed ≡ outside.old.printed }
+    {
         match outside.send(records) {
             Ok(()) => Ok(self),
             Err(NoMemory) => {
@@ -64,6 +76,8 @@ impl<D: Disk> Idle<D> {
     fn into_parts(self) -> (Member<D>, Lanes<NoGate>)
         ensures idle { IsIdle (stage_of result.0) }
         ensures none { result.1 ≡ [] }
+        ensures whole { IsTrue result.0.whole }
+        ensures seen { result.0.seen ≡ self }
     {
         let Idle { member, lanes } = self;
         (member, lanes)
@@ -74,7 +88,10 @@ impl<D: Disk> Idle<D> {
         self,
         outside: &mut Outside,
         call: Call<'_>,
-    ) -> Result<(Idle<D>, Option<Outcome>), Failed<D>> {
+    ) -> Result<(Idle<D>, Option<Outcome>), Failed<D>>
+        ensures asked { IfOk result (λ r. Asked D.state D.tells D.is_honest call.entry.member call.entry.now call.entry.asking self r.0 r.1 outside.old outside.new) }
+        ensures cut { IfFailed result (λ v. Cut D.state D.tells D.is_honest call.entry.now call.entry.asking self v outside.old outside.new) }
+    {
         let (member, lanes) = self.into_parts();
         let mut member = member;
         match member.ask(outside, call) {
@@ -90,6 +107,8 @@ impl<D: Disk> Idle<D> {
         query: &BackupPacket,
     ) -> Result<(Idle<D>, List<Bytes>), Failed<D>>
         requires { HasSpelling query.now }
+        ensures looked { IfOk result (λ r. IsLooked self r.0) }
+        ensures failed { IfFailed result (λ v. IsLooked self v) }
     {
         let (member, lanes) = self.into_parts();
         let mut member = member;
@@ -104,7 +123,10 @@ impl<D: Disk> Idle<D> {
         self,
         rt: &R,
         outside: &mut Outside,
-    ) -> Result<Idle<D>, Failed<D>> {
+    ) -> Result<Idle<D>, Failed<D>>
+        ensures phased { IfOk result (λ r. Phased D.state D.tells D.is_honest self r outside.old outside.new) }
+        ensures cut { IfFailed result (λ v. PhaseCut D.state D.tells D.is_honest self v × (outside.new ≡ outside.old)) }
+    {
         let (member, lanes) = self.into_parts();
         let mut member = member;
         let mut lanes = lanes;

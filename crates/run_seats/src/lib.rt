@@ -3,7 +3,9 @@
 #![tactic(auto)]
 
 mod answer;
+mod asking;
 mod calls;
+mod ended;
 mod going;
 mod idle;
 mod member;
@@ -14,9 +16,10 @@ mod seat;
 mod site;
 mod stopped;
 
-pub use calls::Asking;
+pub use asking::Asking;
+pub use ended::{ServiceRun, first_number};
 pub use member::Shown;
 pub use mounted::Mounted;
 pub use running::Running;
-pub use seat::{Seat, ServiceRun, Took, first_number};
+pub use seat::{Seat, Took};
 pub use site::{MemberId, Site};

@@ -1,6 +1,8 @@
 // A running member, as its phases and its calls ask for it.
-ghost use Rattle.std.specs.Prelude.{◌≡◌, IfOk};
-ghost use Rattle.run_seats.specs.Seen.{stage_of};
+ghost use Rattle.std.specs.Prelude.{◌≡◌, ◌≤◌, ◌^◌, min, length, IsTrue, IfOk, OnOk, slice_get};
+ghost use Rattle.consensus_agent.specs.Consumed.{inputs_of};
+ghost use Rattle.run_seats.specs.Asked.{with_printed};
+ghost use Rattle.run_seats.specs.Seen.{IsFused, stage_of};
 ghost use Rattle.service_phases.specs.Stages.{IsIdle};
 
 use crate::site::{MemberId, Site};
@@ -60,7 +62,8 @@ impl<D: Disk> Member<D> {
         disk: D,
         now: u64,
     ) -> Result<Member<D>, (D, MemberFault)>
-        ensures { IfOk result (λ m. IsIdle (stage_of m)) }
+        ensures idle { IfOk result (λ m. IsIdle (stage_of m)) }
+        ensures whole { IfOk result (λ m. IsTrue m.whole) }
     {
         let MemberId { member, members } = id;
         match Agent::mount(site.alloc, member, members, site.kinds(), disk, now) {
@@ -87,6 +90,7 @@ impl<D: Disk> Member<D> {
 
     /// What it has committed is printed.
     pub(crate) fn print(&self, outside: &mut Outside) -> Result<(), NoMemory>
+        ensures printed { OnOk result (outside.new.printed ≡ with_printed self.now.seen outside.old.printed) }
         ensures net { outside.new.net ≡ outside.old.net }
         ensures egress { outside.new.egress ≡ outside.old.egress }
     {
@@ -102,25 +106,42 @@ impl<D: Disk> Member<D> {
         self.agent.services()
     }
 
+    /// How many services are at hand, up to 255: all of them while no phase runs.
+    pub(crate) fn at_hand(&self) -> u8
+        ensures { result ≡ min (length self.now.seen.lending.kept) 255 }
+    {
+        self.agent.at_hand().min(255) as u8
+    }
+
     /// The entries of the snapshot from which its services began.
-    pub(crate) fn base(&self) -> u64 {
+    pub(crate) fn base(&self) -> u64
+        ensures value { result ≡ self.now.seen.base }
+        ensures bound { result ≤ 2 ^ 62 }
+    {
         self.agent.base()
     }
 
     /// What a service consumed; nothing while a phase goes on.
-    pub(crate) fn inputs(&self, service: u8) -> &[Entry] {
+    pub(crate) fn inputs(&self, service: u8) -> &[Entry]
+        ensures { result.now ≡ inputs_of (slice_get self.now.seen.lending.kept service) }
+    {
         self.agent.inputs(service)
     }
 
     /// Lets so many changing calls of its disk pass.
+    #[tactic(auto, using(crate::proofs::Seen::was_fused))]
     pub(crate) fn fuse(&mut self, calls: u64)
-        ensures { stage_of self.new ≡ stage_of self.old }
+        ensures stage { stage_of self.new ≡ stage_of self.old }
+        ensures whole { self.new.whole ≡ self.old.whole }
+        ensures fused { IsTrue self.old.whole → IsFused D.state D.tells D.is_honest calls self.old.seen self.new.seen }
     {
         self.agent.fuse(calls);
     }
 
     /// The disk as it stands; all else is gone.
-    pub(crate) fn into_disk(self) -> D {
+    pub(crate) fn into_disk(self) -> D
+        ensures { result ≡ self.seen.disk.disk }
+    {
         let Member { agent } = self;
         Box::into_inner(agent).stop()
     }

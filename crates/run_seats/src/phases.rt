@@ -1,6 +1,9 @@
 // The phases of a running member.
-ghost use Rattle.std.specs.Prelude.{◌≡◌, [], true, false, OnOk, IfOk};
+ghost use Rattle.std.specs.Prelude.{◌≡◌, [], true, false, IsTrue, OnOk, IfOk};
+ghost use Rattle.consensus_agent.specs.Accepted.{OnFault};
+ghost use Rattle.member_phases.specs.Calls.{PhaseCut};
 ghost use Rattle.run_phases.specs.Frees.{IsFree, IsGoing};
+ghost use Rattle.run_seats.specs.Phased.{PhaseRan};
 ghost use Rattle.run_seats.specs.Seen.{stage_of};
 ghost use Rattle.service_phases.specs.Feeds.{HasCommit};
 ghost use Rattle.service_phases.specs.Pairs.{Each};
@@ -19,6 +22,7 @@ use std::thread::Threads;
 
 impl<D: Disk> Member<D> {
     /// A whole phase: the services consume what is committed. Gives the records that go out.
+    #[tactic(auto, using(crate::proofs::Phasing::phase_fell))]
     pub(crate) fn phase<R: Threads + Wait + Copy + Send + Sync + 'static>(
         &mut self,
         rt: &R,
@@ -29,6 +33,9 @@ impl<D: Disk> Member<D> {
         requires none { lanes.old ≡ [] }
         ensures idle { OnOk result (IsIdle (stage_of self.new)) }
         ensures none { lanes.new ≡ [] }
+        ensures whole { IsTrue self.old.whole → OnOk result (IsTrue self.new.whole) }
+        ensures ran { IsTrue self.old.whole → IfOk result (PhaseRan D.state D.tells D.is_honest self.old.seen self.new.seen) }
+        ensures cut { IsTrue self.old.whole → OnFault result (PhaseCut D.state D.tells D.is_honest self.old.seen self.new.seen) }
     {
         run_phase(rt, alloc, &mut self.agent, lanes)
     }
@@ -44,6 +51,7 @@ impl<D: Disk> Member<D> {
         ensures free { IfOk result (λ p. IsFree (stage_of self.new) p) }
         ensures going { IfOk result (λ p. IsGoing (stage_of self.new) p.feeds) }
         ensures on { IfOk result (λ _. self.new.seen.over ≡ false) }
+        ensures whole { self.new.whole ≡ self.old.whole }
     {
         free_begin(rt, &mut self.agent, lanes)
     }
@@ -62,6 +70,7 @@ impl<D: Disk> Member<D> {
         ensures published { OnOk result (Each (HasCommit self.new.seen.core.values.rest.commit) phase.new.feeds) }
         ensures over { OnOk result (self.new.seen.over ≡ self.old.seen.over) }
         ensures goes_on { IfOk result (λ fed. self.new.seen.over ≡ true → fed ≡ Fed.Over) }
+        ensures whole { self.new.whole ≡ self.old.whole }
     {
         free_feed(rt, alloc, &mut self.agent, phase)
     }
@@ -77,6 +86,7 @@ impl<D: Disk> Member<D> {
         requires going { IsGoing (stage_of self.old) phase.feeds }
         ensures idle { OnOk result (IsIdle (stage_of self.new)) }
         ensures none { IfOk result (λ p. p.1 ≡ []) }
+        ensures whole { OnOk result (IsTrue self.new.whole) }
     {
         free_end(rt, alloc, &mut self.agent, phase)
     }

@@ -1,8 +1,15 @@
 // A running member, between its phases or in one that goes on.
-ghost use Rattle.std.specs.Prelude.{◌≡◌};
+ghost use Rattle.std.specs.Prelude.{◌≡◌, true, false, Ok, IfOk, OnOk, slice_get};
+ghost use Rattle.consensus_agent.specs.Consumed.{inputs_of};
 ghost use Rattle.cluster_backup.specs.Spelling.{HasSpelling};
+ghost use Rattle.member_phases.specs.Calls.{PhaseCut};
+ghost use Rattle.run_seats.specs.Asked.{Asked, Cut, with_printed};
+ghost use Rattle.run_seats.specs.Failed.{IfFailed};
+ghost use Rattle.run_seats.specs.Phased.{Phased};
+ghost use Rattle.run_seats.specs.Running.{going_seen, idle_seen};
+ghost use Rattle.run_seats.specs.Seen.{IsFused, IsLooked};
 
-use crate::calls::Call;
+use crate::asking::Call;
 use crate::going::Going;
 use crate::idle::Idle;
 use crate::member::{Member, Shown};
@@ -26,34 +33,40 @@ enum State<D: Disk> {
     Going(Going<D>),
 }
 
-/// A running member. Contracts see nothing of it.
+/// A running member. Contracts see of it what stands to the world of a run, and whether a phase goes on.
 #[derive(Drop)]
 pub struct Running<D: Disk> {
     state: State<D>,
 }
 
 impl<D: Disk> Model for Running<D> {
-    ghost use Rattle.std.specs.Prelude.{ℕ};
+    ghost use Rattle.run_seats.specs.Running.{RunningSeen, running_of};
 
-    ghost Value = { ℕ };
+    ghost Value = { RunningSeen D };
 
-    ghost view = { λ _. 0 };
+    ghost view = { λ r. running_of r.state };
 }
 
 impl<D: Disk> Running<D> {
-    fn idle(idle: Idle<D>) -> Running<D> {
+    fn idle(idle: Idle<D>) -> Running<D>
+        ensures { result ≡ idle_seen idle }
+    {
         Running {
             state: State::Idle(idle),
         }
     }
 
-    fn going(going: Going<D>) -> Running<D> {
+    fn going(going: Going<D>) -> Running<D>
+        ensures { result ≡ going_seen going }
+    {
         Running {
             state: State::Going(going),
         }
     }
 
-    fn member(&self) -> &Member<D> {
+    fn member(&self) -> &Member<D>
+        ensures { result.now.seen ≡ self.now.member }
+    {
         match &self.state {
             State::Idle(idle) => &idle.member,
             State::Going(going) => &going.member,
@@ -71,17 +84,22 @@ impl<D: Disk> Running<D> {
     }
 
     /// The entries of the snapshot from which its services began.
-    pub fn base(&self) -> u64 {
+    pub fn base(&self) -> u64
+        ensures { result ≡ self.now.member.base }
+    {
         self.member().base()
     }
 
     /// What a service consumed; nothing while a phase goes on.
-    pub fn inputs(&self, service: u8) -> &[Entry] {
+    pub fn inputs(&self, service: u8) -> &[Entry]
+        ensures { result.now ≡ inputs_of (slice_get self.now.member.lending.kept service) }
+    {
         self.member().inputs(service)
     }
 
     /// What it has committed is printed.
     pub(crate) fn print(&self, outside: &mut Outside) -> Result<(), NoMemory>
+        ensures printed { OnOk result (outside.new.printed ≡ with_printed self.now.member outside.old.printed) }
         ensures net { outside.new.net ≡ outside.old.net }
         ensures egress { outside.new.egress ≡ outside.old.egress }
     {
@@ -94,7 +112,11 @@ impl<D: Disk> Running<D> {
         rt: &R,
         outside: &mut Outside,
         call: Call<'_>,
-    ) -> Result<(Running<D>, Option<Outcome>), Failed<D>> {
+    ) -> Result<(Running<D>, Option<Outcome>), Failed<D>>
+        ensures going { IfOk result (λ r. r.0.going ≡ self.going) }
+        ensures asked { self.going ≡ false → IfOk result (λ r. Asked D.state D.tells D.is_honest call.entry.member call.entry.now call.entry.asking self.member r.0.member r.1 outside.old outside.new) }
+        ensures cut { self.going ≡ false → IfFailed result (λ v. Cut D.state D.tells D.is_honest call.entry.now call.entry.asking self.member v outside.old outside.new) }
+    {
         match self.state {
             State::Idle(idle) => {
                 let (idle, outcome) = idle.ask(outside, call)?;
@@ -115,6 +137,9 @@ impl<D: Disk> Running<D> {
         query: &BackupPacket,
     ) -> Result<(Running<D>, List<Bytes>), Failed<D>>
         requires { HasSpelling query.now }
+        ensures going { IfOk result (λ r. r.0.going ≡ self.going) }
+        ensures looked { IfOk result (λ r. IsLooked self.member r.0.member) }
+        ensures failed { self.going ≡ false → IfFailed result (λ v. IsLooked self.member v) }
     {
         match self.state {
             State::Idle(idle) => {
@@ -133,7 +158,12 @@ impl<D: Disk> Running<D> {
         self,
         rt: &R,
         outside: &mut Outside,
-    ) -> Result<Running<D>, Failed<D>> {
+    ) -> Result<Running<D>, Failed<D>>
+        ensures going { IfOk result (λ r. r.going ≡ self.going) }
+        ensures phased { self.going ≡ false → IfOk result (λ r. Phased D.state D.tells D.is_honest self.member r.member outside.old outside.new) }
+        ensures cut { self.going ≡ false → IfFailed result (λ v. PhaseCut D.state D.tells D.is_honest self.member v × (outside.new ≡ outside.old)) }
+        ensures goes_on { self.going ≡ true → (result ≡ Ok self) × (outside.new ≡ outside.old) }
+    {
         match self.state {
             State::Idle(idle) => Ok(Running::idle(idle.phase(rt, outside)?)),
             state => Ok(Running { state }),
@@ -145,7 +175,10 @@ impl<D: Disk> Running<D> {
         self,
         rt: &R,
         alloc: Global,
-    ) -> Result<Running<D>, Failed<D>> {
+    ) -> Result<Running<D>, Failed<D>>
+        ensures going { IfOk result (λ r. r.going ≡ true) }
+        ensures goes_on { self.going ≡ true → result ≡ Ok self }
+    {
         match self.state {
             State::Idle(idle) => Ok(Running::going(idle.begin(rt, alloc)?)),
             state => Ok(Running { state }),
@@ -157,7 +190,10 @@ impl<D: Disk> Running<D> {
         self,
         rt: &R,
         outside: &mut Outside,
-    ) -> Result<Running<D>, Failed<D>> {
+    ) -> Result<Running<D>, Failed<D>>
+        ensures going { IfOk result (λ r. r.going ≡ false) }
+        ensures rests { self.going ≡ false → (result ≡ Ok self) × (outside.new ≡ outside.old) }
+    {
         match self.state {
             State::Going(going) => Ok(Running::idle(going.end(rt, outside)?)),
             state => Ok(Running { state }),
@@ -165,7 +201,10 @@ impl<D: Disk> Running<D> {
     }
 
     /// Lets so many changing calls of the member's disk pass.
-    pub(crate) fn fuse(self, calls: u64) -> Running<D> {
+    pub(crate) fn fuse(self, calls: u64) -> Running<D>
+        ensures going { result.going ≡ self.going }
+        ensures fused { IsFused D.state D.tells D.is_honest calls self.member result.member }
+    {
         match self.state {
             State::Idle(Idle { member, lanes }) => {
                 let mut member = member;
@@ -184,7 +223,9 @@ impl<D: Disk> Running<D> {
     pub(crate) fn stop<R: Threads + Wait + Copy + Send + Sync + 'static>(
         self,
         rt: &R,
-    ) -> Stopped<D> {
+    ) -> Stopped<D>
+        ensures { self.going ≡ false → result.member.seen ≡ self.member }
+    {
         match self.state {
             State::Idle(Idle { member, lanes }) => {
                 lanes.close(rt);

@@ -1,12 +1,17 @@
 // One member of a run, with its disk.
-ghost use Rattle.std.specs.Prelude.{◌≡◌, ◌+◌, ◌≤◌, ◌<◌, ◌^◌, IfOk, length};
+ghost use Rattle.std.specs.Prelude.{◌≡◌, ◌≤◌, ◌^◌, [], Bool, true, false, map, IfErr, IfOk, OnOk};
+ghost use Rattle.run_orders.specs.Stands.{Down, Up, UpSeen};
+ghost use Rattle.run_seats.specs.Seats.{ended_seen};
+ghost use Rattle.run_seats.specs.Failed.{NotMemory};
+ghost use Rattle.run_seats.specs.Steps.{Crashed, CrashedTo, SeatAsked, SeatPhased};
 
-use crate::calls::{Asking, Call};
+use crate::asking::{Asking, Call};
+use crate::ended::{ServiceRun, ended_run};
 use crate::mounted::Mounted;
 use crate::running::{Running, start};
 use crate::site::{MemberId, Site};
 use crate::stopped::{Failed, Stopped};
-use cl_base::{Bytes, Choice, Disk, Entry, List, MemberFault, NoMemory};
+use cl_base::{Bytes, Choice, Disk, List, MemberFault, NoMemory};
 use cluster_backup::decode_backup;
 use ingress::Outcome;
 use run_outside::Outside;
@@ -17,20 +22,6 @@ use std::mem;
 use std::sync::Wait;
 use std::thread::Threads;
 use wire_prims::DecodeFault;
-
-/// What one run of a service consumed.
-#[derive(Drop)]
-pub struct ServiceRun {
-    /// The service's number, 0 to 2.
-    pub service: u8,
-    /// The run's number among the member's runs, from 1.
-    pub run: u64,
-    /// The entries of the snapshot from which it began.
-    pub from: u64,
-    /// What it consumed, in order.
-    pub inputs: List<Entry>,
-    ghost numbered: { from + length inputs < 2 ^ 64 },
-}
 
 /// Where a member's disk is.
 #[derive(Drop)]
@@ -54,7 +45,7 @@ pub enum Took {
     Stopped,
 }
 
-/// One member of a run, with its disk. Contracts see nothing of it.
+/// One member of a run, with its disk. Contracts see its number and its place; no home while its disk is taken to be read.
 #[derive(Drop)]
 pub struct Seat<D: Disk> {
     id: MemberId,
@@ -68,34 +59,19 @@ pub struct Seat<D: Disk> {
 }
 
 impl<D: Disk> Model for Seat<D> {
-    ghost use Rattle.std.specs.Prelude.{ℕ};
+    ghost use Rattle.std.specs.Prelude.{map};
+    ghost use Rattle.run_seats.specs.Seats.{SeatHeld, ended_seen, home_of};
 
-    ghost Value = { ℕ };
+    ghost Value = { SeatHeld D };
 
-    ghost view = { λ _. 0 };
-}
-
-/// The number of the first of so many entries: this one, or a lower one where the last would have no number below 2^64.
-pub fn first_number(first: u64, count: usize) -> u64
-    ensures { result + count < 2 ^ 64 }
-{
-    first.min(u64::MAX - count as u64)
-}
-
-/// A copy of these entries.
-fn copied(alloc: Global, entries: &[Entry]) -> Result<List<Entry>, NoMemory>
-    ensures { IfOk result (λ copies. length copies ≡ length entries.now) }
-{
-    let mut copies = List::new(alloc);
-    for entry in entries {
-        copies.push(entry.copy()?)?;
-    }
-    Ok(copies)
+    ghost view = { λ s. record { member = s.id.member; home = home_of s.home; choice = s.choice; ended = map ended_seen s.ended.items } };
 }
 
 impl<D: Disk + Drop> Seat<D> {
     /// A stopped member on this disk.
-    pub fn new(alloc: Global, id: MemberId, disk: D) -> Seat<D> {
+    pub fn new(alloc: Global, id: MemberId, disk: D) -> Seat<D>
+        ensures { result ≡ record { member = id.member; home = Some (Down disk); choice = Choice.Keep; ended = [] } }
+    {
         Seat {
             id,
             home: Home::Down(disk),
@@ -106,7 +82,9 @@ impl<D: Disk + Drop> Seat<D> {
     }
 
     /// The member's number, 0 to 4.
-    pub fn member(&self) -> u8 {
+    pub fn member(&self) -> u8
+        ensures { result ≡ self.now.member }
+    {
         self.id.member
     }
 
@@ -116,7 +94,9 @@ impl<D: Disk + Drop> Seat<D> {
     }
 
     /// What the services of its ended runs consumed, by run and service.
-    pub fn ended(&self) -> &[ServiceRun] {
+    pub fn ended(&self) -> &[ServiceRun]
+        ensures { map ended_seen result.now ≡ self.now.ended }
+    {
         self.ended.as_slice()
     }
 
@@ -145,38 +125,25 @@ impl<D: Disk + Drop> Seat<D> {
         self.home = Home::Down(mounted.into_disk());
     }
 
-    /// Keeps what the services consumed, for the report.
-    fn keep_inputs(&mut self, alloc: Global, stopped: &Stopped<D>) -> Result<(), NoMemory> {
-        for service in 0..stopped.services() {
-            let entries = stopped.inputs(service);
-            let inputs = copied(alloc, entries)?;
-            let ended = ServiceRun {
-                service,
-                run: self.run,
-                from: first_number(stopped.base(), entries.len()),
-                inputs,
-            };
-            if self.ended.push(ended).is_err() {
-                return Err(NoMemory);
-            }
-        }
-        Ok(())
-    }
-
     /// The member stops: all that isn't on its disk is gone, and a crash leaves of the disk what the choice says.
     fn crash(
         &mut self,
         alloc: Global,
         stopped: Stopped<D>,
         choice: Choice,
-    ) -> Result<(), NoMemory> {
-        let kept = self.keep_inputs(alloc, &stopped);
+    ) -> Result<(), NoMemory>
+        ensures { OnOk result (Crashed D.state D.tells D.is_honest choice stopped.member.seen self.old self.new) }
+    {
+        let kept = stopped.keep_inputs(alloc, self.run, &mut self.ended);
         self.rest(stopped.into_disk(), choice);
         kept
     }
 
     /// Takes a member that runs out of its seat. The caller puts what becomes of it back.
-    fn take_running(&mut self) -> Option<Running<D>> {
+    fn take_running(&mut self) -> Option<Running<D>>
+        ensures up { (u : UpSeen D) (going : Bool) → self.old.home ≡ Some (Up u going) → (result ≡ Some (record { member = u; going = going })) × (self.new ≡ record self.old { home = None }) }
+        ensures down { (disk : D) → self.old.home ≡ Some (Down disk) → (result ≡ None) × (self.new ≡ self.old) }
+    {
         match mem::replace(&mut self.home, Home::Taken) {
             Home::Up(running) => Some(running),
             home => {
@@ -187,7 +154,10 @@ impl<D: Disk + Drop> Seat<D> {
     }
 
     /// Takes the disk of a member that is stopped out of its seat. The caller puts what becomes of it back.
-    fn take_disk(&mut self) -> Option<D> {
+    fn take_disk(&mut self) -> Option<D>
+        ensures up { (u : UpSeen D) (going : Bool) → self.old.home ≡ Some (Up u going) → (result ≡ None) × (self.new ≡ self.old) }
+        ensures down { (disk : D) → self.old.home ≡ Some (Down disk) → (result ≡ Some disk) × (self.new ≡ record self.old { home = None }) }
+    {
         match mem::replace(&mut self.home, Home::Taken) {
             Home::Down(disk) => Some(disk),
             home => {
@@ -202,7 +172,10 @@ impl<D: Disk + Drop> Seat<D> {
         &mut self,
         rt: &R,
         alloc: Global,
-    ) -> Result<bool, NoMemory> {
+    ) -> Result<bool, NoMemory>
+        ensures up { (u : UpSeen D) → self.old.home ≡ Some (Up u false) → IfOk result (λ stopped. (stopped ≡ true) × Crashed D.state D.tells D.is_honest Choice.Keep u self.old self.new) }
+        ensures down { (disk : D) → self.old.home ≡ Some (Down disk) → (result ≡ Ok false) × (self.new ≡ self.old) }
+    {
         let Some(running) = self.take_running() else {
             return Ok(false);
         };
@@ -211,7 +184,9 @@ impl<D: Disk + Drop> Seat<D> {
     }
 
     /// A member that a call failed under stops. Where memory was wanted, the run is given up.
-    fn fail(&mut self, alloc: Global, failed: Failed<D>) -> Result<Took, NoMemory> {
+    fn fail(&mut self, alloc: Global, failed: Failed<D>) -> Result<Took, NoMemory>
+        ensures { IfOk result (λ took. (took ≡ Took.Stopped) × NotMemory failed.fault × Crashed D.state D.tells D.is_honest self.old.choice failed.member.seen self.old self.new) }
+    {
         if failed.wants_memory() {
             self.home = Home::Down(failed.stop().into_disk());
             return Err(NoMemory);
@@ -225,7 +200,10 @@ impl<D: Disk + Drop> Seat<D> {
         &mut self,
         alloc: Global,
         stepped: Result<Running<D>, Failed<D>>,
-    ) -> Result<Took, NoMemory> {
+    ) -> Result<Took, NoMemory>
+        ensures done { IfOk stepped (λ r. (result ≡ Ok (Took.Taken None)) × (self.new ≡ record self.old { home = Some (Up r.member r.going) })) }
+        ensures failed { IfErr stepped (λ f. IfOk result (λ took. (took ≡ Took.Stopped) × NotMemory f.fault × Crashed D.state D.tells D.is_honest self.old.choice f.member.seen self.old self.new)) }
+    {
         match stepped {
             Ok(running) => {
                 self.home = Home::Up(running);
@@ -244,6 +222,8 @@ impl<D: Disk + Drop> Seat<D> {
         now: u64,
     ) -> Result<Took, NoMemory>
         requires { now ≤ 2 ^ 60 }
+        ensures asked { (u : UpSeen D) → self.old.home ≡ Some (Up u false) → IfOk result (λ took. SeatAsked D.state D.tells D.is_honest now asking.entry u self.old self.new took outside.old outside.new) }
+        ensures down { (disk : D) → self.old.home ≡ Some (Down disk) → (result ≡ Ok Took.Down) × (self.new ≡ self.old) × (outside.new ≡ outside.old) }
     {
         let Some(running) = self.take_running() else {
             return Ok(Took::Down);
@@ -291,7 +271,10 @@ impl<D: Disk + Drop> Seat<D> {
         &mut self,
         rt: &R,
         outside: &mut Outside,
-    ) -> Result<Took, NoMemory> {
+    ) -> Result<Took, NoMemory>
+        ensures phased { (u : UpSeen D) → self.old.home ≡ Some (Up u false) → IfOk result (λ took. SeatPhased D.state D.tells D.is_honest u self.old self.new took outside.old outside.new) }
+        ensures down { (disk : D) → self.old.home ≡ Some (Down disk) → (result ≡ Ok Took.Down) × (self.new ≡ self.old) × (outside.new ≡ outside.old) }
+    {
         let Some(running) = self.take_running() else {
             return Ok(Took::Down);
         };
@@ -337,7 +320,9 @@ impl<D: Disk + Drop> Seat<D> {
     }
 
     /// The disk is at rest after a crash, which clears its fuse.
-    fn rest(&mut self, disk: D, choice: Choice) {
+    fn rest(&mut self, disk: D, choice: Choice)
+        ensures { (d : D) × CrashedTo D.state D.tells D.is_honest choice disk d × (self.new ≡ record self.old { home = Some (Down d); choice = Choice.Keep }) }
+    {
         let mut disk = disk;
         disk.crash(choice);
         self.choice = Choice::Keep;
