@@ -1,2 +1,6 @@
 pub mod Formatting
+pub mod Latest
 pub mod Rests
+pub mod Stored
+pub mod Striking
+pub mod Struck

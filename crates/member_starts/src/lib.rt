@@ -1,16 +1,20 @@
 //! What a new disk, a stop, an invalidation and a start make of a member, tied to the world of a run.
 #![tactic(auto)]
 
-ghost use Rattle.std.specs.Prelude.{◌≡◌, ◌<◌, ℕ, Bool, IsTrue, List, [], length};
+ghost use Rattle.std.specs.Prelude.{◌≡◌, ◌<◌, ℕ, Bool, IsTrue, List, [], length, Ok, Err};
 ghost use Rattle.cl_base.specs.Disk.{CrashLeaves};
 ghost use Rattle.cl_base.specs.declared.disk.Choice.{Choice};
 ghost use Rattle.cl_base.specs.declared.disk.Choice.TheVariants.{Keep};
+ghost use Rattle.cl_base.specs.declared.fault.MemberFault.{MemberFault};
+ghost use Rattle.member_disk.specs.Kept.{Held};
 ghost use Rattle.service_api.specs.declared.shipped.Kind.{Kind};
 ghost use Rattle.member_rows.specs.Places.{stopped_seat, running_seat};
-ghost use Rattle.run_world.specs.RunWorld.{Fails, RunWorld, Stops, does, seat};
+ghost use Rattle.member_rows.specs.Turns.{IsTurn};
+ghost use Rattle.run_world.specs.RunWorld.{Fails, Invalidates, RunWorld, Stops, does, seat};
 ghost use Rattle.run_world.specs.Seat.{Seat, first_seat, rested};
 ghost use Rattle.run_orders.specs.Stands.{Down, EndedSeen, IsSeat, RunSeen, Stands, UpSeen, seen_put};
 ghost use Rattle.member_starts.specs.Formats.{Formatted, IsBlank};
+ghost use Rattle.member_starts.specs.Strikes.{HasStruck, Invalidated, Mounted, NotMounted, down_seat};
 
 use cl_base::Disk;
 
@@ -29,4 +33,17 @@ pub fn a_stop_is_an_act<D: Disk>()
     ensures fails { (kinds : List Kind) (x : RunSeen D) (w : RunWorld) (m : ℕ) (u : UpSeen D) (going : Bool) (choice left : Choice) (ended : List EndedSeen) (e d : D) → Stands D.state kinds x w → m < length w.seats
         → IsTrue (D.is_honest u.disk.disk) → IsSeat D.state kinds (running_seat choice ended u going) (seat w m) → ((f : ℕ) → (D.state e).files f ≡ (D.state u.disk.disk).files f) → CrashLeaves left (D.state e) (D.state d)
         → Stands D.state kinds (seen_put m (stopped_seat ended u going d) [] [] x) (does kinds w (Fails m (D.state e).own_faults)) }
+{}
+
+/// What comes of a stopped member's disk whose latest valid set of snapshots is to go is one act of the run's world, a fault in it included: the set went, or there was none; the strike failed, or the mount before it, and a crash left this of the disk.
+pub fn an_invalidation_is_an_act<D: Disk>()
+    ensures done { (kinds : List Kind) (s : Seat) (choice : Choice) (ended : List EndedSeen) (disk : D) (h k : Held D) (found : Bool) → IsTrue (D.is_honest disk) → IsSeat D.state kinds (down_seat choice ended disk) s
+        → Mounted D.state D.tells D.is_honest D.moment D.left_since (length kinds) disk h → Invalidated D.state D.tells D.is_honest D.moment D.left_since h k (Ok found) → HasStruck D.state kinds s (down_seat choice ended k.disk) }
+    ensures cut { (kinds : List Kind) (s : Seat) (choice : Choice) (ended : List EndedSeen) (disk : D) (h k : Held D) (fault : MemberFault) (d : D) → IsTrue (D.is_honest disk) → IsSeat D.state kinds (down_seat choice ended disk) s
+        → Mounted D.state D.tells D.is_honest D.moment D.left_since (length kinds) disk h → Invalidated D.state D.tells D.is_honest D.moment D.left_since h k (Err fault) → CrashLeaves choice (D.state k.disk) (D.state d)
+        → HasStruck D.state kinds s (down_seat Keep ended d) }
+    ensures unmounted { (kinds : List Kind) (s : Seat) (choice : Choice) (ended : List EndedSeen) (disk back d : D) → IsTrue (D.is_honest disk) → IsSeat D.state kinds (down_seat choice ended disk) s
+        → NotMounted D.state D.tells D.is_honest D.moment D.left_since disk back → CrashLeaves choice (D.state back) (D.state d) → HasStruck D.state kinds s (down_seat Keep ended d) }
+    ensures act { (kinds : List Kind) (x : RunSeen D) (w : RunWorld) (m : ℕ) (choice left : Choice) (ended : List EndedSeen) (disk d : D) → Stands D.state kinds x w → m < length w.seats → IsSeat D.state kinds (down_seat choice ended disk) (seat w m)
+        → HasStruck D.state kinds (seat w m) (down_seat left ended d) → IsTurn D.state kinds (Invalidates m) m (down_seat left ended d) [] [] x w }
 {}
