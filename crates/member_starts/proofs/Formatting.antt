@@ -1,6 +1,5 @@
 -- A formatted disk, on both sides.
-use Rattle.std.proofs.Common.{◌≡◌, ℕ, List, [], length, None, refl, sym, ap, ◌∙◌, arith}
-use Rattle.std.specs.Prelude.{All, Option}
+use Rattle.std.proofs.Common.{List, [], length, refl, sym, ap, ◌∙◌, arith}
 use Rattle.cl_base.specs.Disk.{DiskState}
 use Rattle.cl_base.specs.Fuse.{less}
 use Rattle.cl_base.specs.declared.disk.Choice.TheVariants.{Keep}

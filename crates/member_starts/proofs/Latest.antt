@@ -1,6 +1,6 @@
 -- The latest of the valid sets of snapshots, as the last one in order.
-use Rattle.std.proofs.Common.{◌≡◌, ◌⊎◌, inl, inr, ℕ, Bool, true, false, not, ◌&&◌, ◌||◌, List, [], ◌∷◌, refl, sym, ap, ◌∙◌, subst, arith, ℤ, Some, None, Option, if◌then◌else◌}
-use Rattle.std.specs.Prelude.{Contains, nat_lt, nat_eq, int_lt}
+use Rattle.std.proofs.Common.{◌≡◌, inl, inr, ℕ, Bool, true, false, List, [], ◌∷◌, refl, sym, ap, ◌∙◌, subst, arith, Some, None, Option}
+use Rattle.std.specs.Prelude.{Contains}
 use Rattle.std.proofs.lemmas.Int.{ints}
 use Rattle.std.proofs.lemmas.Bool.Decides.{nat_tests}
 use Rattle.entry_log.specs.Durable.{SnapshotEntry, SnapshotSet, has_set, is_later, with_set, sets_in, sets_of, last_set, latest_set}

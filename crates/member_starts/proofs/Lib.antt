@@ -1,4 +1,5 @@
 pub mod Formatting
+pub mod Invalidating
 pub mod Latest
 pub mod Rests
 pub mod Stored

@@ -1,5 +1,5 @@
 -- What a crash leaves of a disk, and a member that stops, on both sides.
-use Rattle.std.proofs.Common.{◌≡◌, ℕ, suc, ◌+◌, ◌<◌, ◌≤◌, Bool, true, false, ◌&&◌, List, [], ◌∷◌, ◌++◌, length, map, take, drop, refl, sym, ap, ◌∙◌, subst, arith, if◌then◌else◌}
+use Rattle.std.proofs.Common.{◌≡◌, ℕ, suc, ◌<◌, ◌≤◌, Bool, true, false, ◌&&◌, List, [], ◌∷◌, ◌++◌, length, map, take, drop, refl, sym, ap, ◌∙◌, subst, arith, if◌then◌else◌}
 use Rattle.std.specs.Prelude.{nat_lt}
 use Rattle.std.proofs.Math.Seq.{drop-append_seam}
 use Rattle.std.proofs.lemmas.Bool.Decides.{nat_tests}
@@ -7,7 +7,6 @@ use Rattle.std.proofs.lemmas.List.{append_assoc, append-nil, length-take-le}
 use Rattle.cl_base.specs.Disk.{FileState, DiskState, CrashLeaves, IsImage}
 use Rattle.cl_base.specs.Images.{IsSound}
 use Rattle.cl_base.specs.declared.disk.Choice.{Choice}
-use Rattle.cl_base.specs.declared.disk.Choice.TheVariants.{Keep}
 use Rattle.entry_log.specs.Durable.{Durable}
 use Rattle.entry_log.specs.Log.{Log}
 use Rattle.log_segment.specs.Held.{IsHeld}

@@ -1,6 +1,6 @@
 -- Snapshot entries that are stored: their sets on both sides.
-use Rattle.std.proofs.Common.{◌≡◌, ◌≢◌, ◌⊎◌, inl, inr, ℕ, zero, suc, ◌<◌, ◌≤◌, Bool, true, false, ◌&&◌, ◌||◌, List, [], ◌∷◌, refl, sym, ap, ◌∙◌, subst, arith, ℤ, pos, negsuc, Some, None, Option, if◌then◌else◌}
-use Rattle.std.specs.Prelude.{Contains, nat_eq, slice_get, int_le}
+use Rattle.std.proofs.Common.{◌≡◌, ◌≢◌, ◌⊎◌, inl, inr, ℕ, zero, suc, ◌<◌, Bool, true, false, ◌&&◌, ◌||◌, List, [], ◌∷◌, refl, sym, ap, ◌∙◌, subst, arith, ℤ, pos, negsuc, Some}
+use Rattle.std.specs.Prelude.{Contains, nat_eq, slice_get}
 use Rattle.std.specs.List.{list_any}
 use Rattle.std.proofs.lemmas.Int.{ints}
 use Rattle.std.proofs.lemmas.Bool.{cases_eq, cond-true, cond-false}
@@ -130,11 +130,11 @@ module _ (files : ℕ → FileState) where
   found (x ∷ xs) snaps service term position zero e each at part = elim (first-or-other files x xs snaps each) [
     | inr other ↦ absurd (differ (sym other.none ∙ ap is_snapshot (some-same x e at) ∙ part.0))
     | inl f ↦
-      record {
-        entry = f.first;
-        has = subst (λ (l : List SnapshotEntry). Contains l f.first) (sym f.is) (cons-here f.first f.rest);
-        test = named-part service term position x f.first f.stored (subst (IsPart term (pos position) service) (sym (some-same x e at)) part);
-      }
+        record {
+          entry = f.first;
+          has = subst (λ (l : List SnapshotEntry). Contains l f.first) (sym f.is) (cons-here f.first f.rest);
+          test = named-part service term position x f.first f.stored (subst (IsPart term (pos position) service) (sym (some-same x e at)) part);
+        }
   ]
     where
       differ : false ≡ true → ⊥
@@ -142,8 +142,8 @@ module _ (files : ℕ → FileState) where
   found (x ∷ xs) snaps service term position (suc i) e each at part = elim (first-or-other files x xs snaps each) [
     | inr other ↦ found xs snaps service term position i e other.others at part
     | inl f ↦
-      let more = found xs f.rest service term position i e f.others at part in
-      record { entry = more.entry; has = subst (λ (l : List SnapshotEntry). Contains l more.entry) (sym f.is) (cons-later f.first more.entry f.rest more.has); test = more.test }
+        let more = found xs f.rest service term position i e f.others at part in
+        record { entry = more.entry; has = subst (λ (l : List SnapshotEntry). Contains l more.entry) (sym f.is) (cons-later f.first more.entry f.rest more.has); test = more.test }
   ]
 
   or-both : (a b : Bool) → (a ≡ true) ⊎ (b ≡ true) → (a || b) ≡ true

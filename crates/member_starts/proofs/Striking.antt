@@ -1,6 +1,6 @@
 -- The latest set's module entry is struck, on both sides.
-use Rattle.std.proofs.Common.{◌≡◌, ◌⊎◌, inl, inr, ℕ, zero, suc, ◌+◌, ◌<◌, ◌≤◌, Bool, true, false, ◌&&◌, ◌||◌, not, List, [], ◌∷◌, refl, sym, ap, ◌∙◌, subst, arith, ℤ, pos, negsuc, Some, None, Option, if◌then◌else◌}
-use Rattle.std.specs.Prelude.{Contains, ◌≤ℤ◌, nat_lt, nat_eq, int_lt, slice_get, slice_set}
+use Rattle.std.proofs.Common.{◌≡◌, ◌⊎◌, inl, inr, ℕ, zero, suc, ◌<◌, Bool, true, false, ◌&&◌, ◌||◌, not, List, [], ◌∷◌, refl, sym, ap, ◌∙◌, subst, arith, ℤ, pos, Some, None, Option, if◌then◌else◌}
+use Rattle.std.specs.Prelude.{◌≤ℤ◌, slice_get, slice_set}
 use Rattle.std.specs.List.{list_any}
 use Rattle.std.proofs.lemmas.Int.{ints}
 use Rattle.std.proofs.lemmas.Bool.{cond-true, cond-false}
@@ -9,13 +9,13 @@ use Rattle.cl_base.specs.Disk.{FileState}
 use Rattle.entry_log.specs.Durable.{SnapshotEntry, SnapshotSet, invalidated, is_entry_of, is_later, has_set, latest_set, without_last, without_set}
 use Rattle.recording_log.specs.declared.entry.RecEntry.{RecEntry}
 use Rattle.recording_log.specs.Listed.{IsLastPart}
-use Rattle.recording_log.specs.Sets.{HasNoSet, HasPart, HasSet, IsLatest, IsPart, IsUpTo, struck, struck_kind, the_module}
+use Rattle.recording_log.specs.Sets.{HasNoSet, HasSet, IsLatest, IsPart, IsUpTo, struck, struck_kind, the_module}
 use Rattle.recording_log.specs.Valid.{is_snapshot}
 use Rattle.member_disk.specs.CutWell.{snapshots_of}
 use Rattle.service_phases.specs.Pairs.{Each2}
 use Rattle.run_orders.specs.Kept.{IsStored}
 use Rattle.member_starts.proofs.Latest.{latest-is, latest-last, latest-whole, no-latest, set_of}
-use Rattle.member_starts.proofs.Stored.{First, Found, first-or-other, any-of, found, named-part, names-it, part-named, part-of, set-whole, whole-set}
+use Rattle.member_starts.proofs.Stored.{First, first-or-other, any-of, found, named-part, names-it, part-named, part-of, set-whole, whole-set}
 
 module _ (files : ℕ → FileState) where
   -- without a set nothing goes
@@ -82,10 +82,10 @@ module _ (files : ℕ → FileState) where
     strike-stored (x ∷ xs) zero e snaps at part last each = elim (first-or-other files x xs snaps each) [
       | inr other ↦ absurd (differ (sym other.none ∙ ap is_snapshot (some-same x e at) ∙ part.0))
       | inl f ↦
-        let here : test f.first ≡ true = named-part files the_module term p x f.first f.stored (subst IsIt (sym (some-same x e at)) part) in
-        let no-more : list_any test f.rest ≡ false = none (list_any test f.rest) refl (λ any. let q = part-of files xs f.rest the_module term p f.others any in last (suc q.index) q.entry (omega arith) q.at q.part) in
-        subst (λ (l : List SnapshotEntry). Each2 (IsStored files) (snapshots_of xs) (without_last test l)) (sym f.is)
-        (subst (λ (l : List SnapshotEntry). Each2 (IsStored files) (snapshots_of xs) l) (sym (by-test test f.first f.rest here no-more)) f.others)
+          let here : test f.first ≡ true = named-part files the_module term p x f.first f.stored (subst IsIt (sym (some-same x e at)) part) in
+          let no-more : list_any test f.rest ≡ false = none (list_any test f.rest) refl (λ any. let q = part-of files xs f.rest the_module term p f.others any in last (suc q.index) q.entry (omega arith) q.at q.part) in
+          subst (λ (l : List SnapshotEntry). Each2 (IsStored files) (snapshots_of xs) (without_last test l)) (sym f.is)
+          (subst (λ (l : List SnapshotEntry). Each2 (IsStored files) (snapshots_of xs) l) (sym (by-test test f.first f.rest here no-more)) f.others)
     ]
       where
         none : (b : Bool) → b ≡ b → (b ≡ true → ⊥) → b ≡ false
@@ -93,14 +93,14 @@ module _ (files : ℕ → FileState) where
         none false is never = refl
     strike-stored (x ∷ xs) (suc k) e snaps at part last each = elim (first-or-other files x xs snaps each) [
       | inr other ↦
-        subst (λ (l : List RecEntry). Each2 (IsStored files) l (without_last test snaps)) (sym (cond-false (is_snapshot x) (x ∷ snapshots_of (slice_set xs k (gone e))) (snapshots_of (slice_set xs k (gone e))) other.none))
-        (strike-stored xs k e snaps at part (λ j d low there is. last (suc j) d (omega (arith, low)) there is) other.others)
+          subst (λ (l : List RecEntry). Each2 (IsStored files) l (without_last test snaps)) (sym (cond-false (is_snapshot x) (x ∷ snapshots_of (slice_set xs k (gone e))) (snapshots_of (slice_set xs k (gone e))) other.none))
+          (strike-stored xs k e snaps at part (λ j d low there is. last (suc j) d (omega (arith, low)) there is) other.others)
       | inl f ↦
-        let later : list_any test f.rest ≡ true = any-of files xs f.rest the_module term p f.others (record { index = k; entry = e; at = at; part = part }) in
-        subst (λ (l : List RecEntry). Each2 (IsStored files) l (without_last test snaps)) (sym (cond-true (is_snapshot x) (x ∷ snapshots_of (slice_set xs k (gone e))) (snapshots_of (slice_set xs k (gone e))) f.snapshot))
-        (subst (λ (l : List SnapshotEntry). Each2 (IsStored files) (x ∷ snapshots_of (slice_set xs k (gone e))) (without_last test l)) (sym f.is)
-        (subst (λ (l : List SnapshotEntry). Each2 (IsStored files) (x ∷ snapshots_of (slice_set xs k (gone e))) l) (sym (by-later test f.first f.rest later))
-        (f.stored, strike-stored xs k e f.rest at part (λ j d low there is. last (suc j) d (omega (arith, low)) there is) f.others)))
+          let later : list_any test f.rest ≡ true = any-of files xs f.rest the_module term p f.others (record { index = k; entry = e; at = at; part = part }) in
+          subst (λ (l : List RecEntry). Each2 (IsStored files) l (without_last test snaps)) (sym (cond-true (is_snapshot x) (x ∷ snapshots_of (slice_set xs k (gone e))) (snapshots_of (slice_set xs k (gone e))) f.snapshot))
+          (subst (λ (l : List SnapshotEntry). Each2 (IsStored files) (x ∷ snapshots_of (slice_set xs k (gone e))) (without_last test l)) (sym f.is)
+          (subst (λ (l : List SnapshotEntry). Each2 (IsStored files) (x ∷ snapshots_of (slice_set xs k (gone e))) l) (sym (by-later test f.first f.rest later))
+          (f.stored, strike-stored xs k e f.rest at part (λ j d low there is. last (suc j) d (omega (arith, low)) there is) f.others)))
     ]
 
   -- a snapshot's entry is stored
@@ -141,13 +141,15 @@ module _ (files : ℕ → FileState) where
       by : (f : First files x xs snaps) → (list_any (is_entry_of service term p) f.rest ≡ true → (e : RecEntry) × IsLastPart xs term (pos p) service e) → (b : Bool) → list_any (is_entry_of service term p) f.rest ≡ b
           → list_any (is_entry_of service term p) (f.first ∷ f.rest) ≡ true → (e : RecEntry) × IsLastPart (x ∷ xs) term (pos p) service e
       by f more true e h = let q = more e in (q.0, later q.0 q.1)
-      by f more false e h =
-          (x, record {
-            index = 0;
-            at = refl;
-            part = part-named files service term p x f.first f.stored f.snapshot (or-left (is_entry_of service term p f.first) (list_any (is_entry_of service term p) f.rest) e h);
-            last = behind;
-          })
+      by f more false e h = (
+        x,
+        record {
+          index = 0;
+          at = refl;
+          part = part-named files service term p x f.first f.stored f.snapshot (or-left (is_entry_of service term p f.first) (list_any (is_entry_of service term p) f.rest) e h);
+          last = behind;
+        },
+      )
         where
           behind : (j : ℕ) (d : RecEntry) → 0 < j → slice_get (x ∷ xs) j ≡ Some d → IsPart term (pos p) service d → ⊥
           behind zero d low there is = omega (arith, low)
@@ -164,14 +166,17 @@ module _ (files : ℕ → FileState) where
       let set = whole-set files entries snaps each b.term b.position services whole in
       let any = any-of files entries snaps the_module b.term b.position each set.of_module in
       let l = last-part entries snaps the_module b.term b.position each any in
-      let part = l.1.part in
-      (l.1.index, l.0, record {
-        at = l.1.at;
-        part = (part.0, refl, refl, part.3);
-        whole = subst (λ (t : ℤ). HasSet services entries t l.0.position) (sym part.1) (subst (HasSet services entries b.term) (sym part.2) set);
-        latest = λ term position other. upto l.0 part.1 part.2 term position other;
-        last = λ j d low there it. l.1.last j d low there (it.0, it.1 ∙ part.1, it.2 ∙ part.2, it.3);
-      })
+      let part = l.1.part in (
+        l.1.index,
+        l.0,
+        record {
+          at = l.1.at;
+          part = (part.0, refl, refl, part.3);
+          whole = subst (λ (t : ℤ). HasSet services entries t l.0.position) (sym part.1) (subst (HasSet services entries b.term) (sym part.2) set);
+          latest = λ term position other. upto l.0 part.1 part.2 term position other;
+          last = λ j d low there it. l.1.last j d low there (it.0, it.1 ∙ part.1, it.2 ∙ part.2, it.3);
+        },
+      )
     where
       upto : (e : RecEntry) → e.term ≡ b.term → e.position ≡ pos b.position → (term position : ℤ) → HasSet services entries term position → IsUpTo term position e
       upto e in' at term position other =
@@ -185,8 +190,7 @@ module _ (files : ℕ → FileState) where
           (subst (λ (p : ℕ). has_set services snaps term p ≡ true) (sym n.position) (set-whole files entries snaps each term q services (subst (HasSet services entries term) place other))) in
           let no-later = latest-last services snaps b is f.entry f.has whole' in
           let u = later-upto f.entry.term b.term f.entry.position b.position no-later in
-          let here : position ≡ pos f.entry.position = place ∙ ap pos (sym n.position) in
-          (
+          let here : position ≡ pos f.entry.position = place ∙ ap pos (sym n.position) in (
             subst (λ (z : ℤ). z ≤ℤ e.position) (sym here) (subst (λ (z : ℤ). pos f.entry.position ≤ℤ z) (sym at) u.0),
             λ same. subst (λ (z : ℤ). term ≤ℤ z) (sym in') (subst (λ (z : ℤ). z ≤ℤ b.term) n.term (u.1 (sym here ∙ same ∙ at))),
           )

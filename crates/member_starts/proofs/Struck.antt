@@ -1,9 +1,8 @@
 -- A strike on a stopped member's disk, on both sides.
-use Rattle.std.proofs.Common.{◌≡◌, ◌≢◌, ◌⊎◌, inl, inr, ℕ, ◌<◌, ◌≤◌, Bool, true, false, not, ◌&&◌, List, [], ◌∷◌, length, take, None, Ok, Err, Result, refl, sym, ap, ◌∙◌, subst, arith, if◌then◌else◌}
-use Rattle.std.specs.Prelude.{IsTrue, nat_lt}
-use Rattle.std.proofs.lemmas.Bool.Decides.{nat_tests}
+use Rattle.std.proofs.Common.{◌≡◌, ◌≢◌, inl, inr, ℕ, zero, suc, ◌≤◌, Bool, true, false, List, [], ◌∷◌, length, None, Ok, Err, refl, sym, ap, ◌∙◌, subst, arith}
+use Rattle.std.specs.Prelude.{IsTrue, slice_set}
+use Rattle.std.proofs.lemmas.Bool.{cond-true, cond-false}
 use Rattle.cl_base.specs.Disk.{FileState, DiskState, CrashLeaves, IsImage, IsImageOf, left_by, settled_file}
-use Rattle.cl_base.specs.Fuse.{Passed}
 use Rattle.cl_base.specs.Images.{IsSound}
 use Rattle.cl_base.specs.Runs.{EachImage}
 use Rattle.cl_base.specs.Torn.{settled_image}
@@ -11,20 +10,19 @@ use Rattle.cl_base.specs.declared.disk.Choice.{Choice}
 use Rattle.cl_base.specs.declared.disk.Choice.TheVariants.{Keep}
 use Rattle.cl_base.specs.declared.fault.MemberFault.{MemberFault}
 use Rattle.entry_log.specs.Durable.{Durable, SnapshotEntry, invalidated}
-use Rattle.entry_log.specs.Log.{Log}
-use Rattle.log_segment.specs.Held.{IsHeld, new_terms}
+use Rattle.log_segment.specs.Held.{new_terms}
 use Rattle.recording_log.specs.declared.entry.RecEntry.{RecEntry}
-use Rattle.recording_log.specs.Sets.{HasNoSet, IsLatest}
-use Rattle.member_disk.specs.Changes.{HaveTerms}
+use Rattle.recording_log.specs.Sets.{HasNoSet, IsLatest, struck_kind}
+use Rattle.recording_log.specs.Valid.{is_snapshot}
 use Rattle.member_disk.specs.CutWell.{IsDurableOne, snapshots_of}
 use Rattle.member_disk.specs.Kept.{Kept, Held, EachStands, IsSettled, Means}
 use Rattle.member_disk.specs.Struck.{with_struck}
 use Rattle.member_disk.proofs.CutWells.{durable_same, strike_terms}
 use Rattle.service_api.specs.declared.shipped.Kind.{Kind}
-use Rattle.service_phases.specs.Pairs.{Each2}
-use Rattle.consensus_core.specs.Member.{Member, Cut, Whole, Before, After, invalidates, snapped, stopped}
-use Rattle.run_world.specs.Seat.{Fate, Seat, failed, faults_left, struck}
-use Rattle.run_orders.specs.Kept.{IsStored, IsStateOf, IsMountable}
+use Rattle.service_phases.specs.Pairs.{Each, Each2}
+use Rattle.consensus_core.specs.Member.{Member, Whole, Before, After, invalidates, stopped}
+use Rattle.run_world.specs.Seat.{Seat, failed}
+use Rattle.run_orders.specs.Kept.{HasBase, IsStored, IsStateOf, IsMountable}
 use Rattle.run_orders.specs.Stands.{EndedSeen, IsDown, IsSeat}
 use Rattle.member_rows.proofs.Images.{IsLeft, all-stored-left, all-stored-on, left-image}
 use Rattle.member_starts.specs.Strikes.{HasStruck, Invalidated, Mounted, NotMounted, down_seat}
@@ -52,6 +50,25 @@ module _ (choice : Choice) (old new : DiskState) (crash : CrashLeaves choice old
       snapshots = all-stored-left choice old.files new.files crash.files (snapshots_of k.entries) d.snapshots (all-stored-on was old.files same (snapshots_of k.entries) d.snapshots is.snapshots);
     };
   }
+
+-- ---- where the terms of the snapshots begin that are left once one is struck
+
+each-struck : (P : RecEntry → Type 0) (xs : List RecEntry) (i : ℕ) (x : RecEntry) → is_snapshot x ≡ false → Each P (snapshots_of xs) → Each P (snapshots_of (slice_set xs i x))
+each-struck P [] i x none each = each
+each-struck P (y ∷ ys) zero x none each = subst (Each P) (sym (cond-false (is_snapshot x) (x ∷ snapshots_of ys) (snapshots_of ys) none)) (by (is_snapshot y) refl)
+  where
+    by : (b : Bool) → is_snapshot y ≡ b → Each P (snapshots_of ys)
+    by true e = (subst (Each P) (cond-true (is_snapshot y) (y ∷ snapshots_of ys) (snapshots_of ys) e) each).1
+    by false e = subst (Each P) (cond-false (is_snapshot y) (y ∷ snapshots_of ys) (snapshots_of ys) e) each
+each-struck P (y ∷ ys) (suc i) x none each = by (is_snapshot y) refl (each-struck P ys i x none)
+  where
+    by : (b : Bool) → is_snapshot y ≡ b → (Each P (snapshots_of ys) → Each P (snapshots_of (slice_set ys i x))) → Each P (snapshots_of (y ∷ slice_set ys i x))
+    by true e rest =
+        let all = subst (Each P) (cond-true (is_snapshot y) (y ∷ snapshots_of ys) (snapshots_of ys) e) each in
+        subst (Each P) (sym (cond-true (is_snapshot y) (y ∷ snapshots_of (slice_set ys i x)) (snapshots_of (slice_set ys i x)) e)) (all.0, rest all.1)
+    by false e rest =
+        let all = subst (Each P) (cond-false (is_snapshot y) (y ∷ snapshots_of ys) (snapshots_of ys) e) each in
+        subst (Each P) (sym (cond-false (is_snapshot y) (y ∷ snapshots_of (slice_set ys i x)) (snapshots_of (slice_set ys i x)) e)) (rest all)
 
 pub not-zero : (g : ℕ) → 258 ≤ g → g ≢ 0
 not-zero g high is = absurd (omega (arith, high, is))
@@ -183,6 +200,7 @@ module _ {D : Type 0} (state : D → DiskState) (is_told is_honest : D → Bool)
         count = mountable-there.count;
         held = mountable-there.held;
         terms = strike_terms (length kinds) h.kept.entries i e (new_terms 0 h.kept.log) latest mountable-there.terms;
+        bases = each-struck (HasBase h.kept.log) h.kept.entries i (record e { kind = struck_kind }) refl mountable-there.bases;
       }
 
       state-on : (k : Kept) (f g : ℕ → FileState) (d : Durable) → ((n : ℕ) → 258 ≤ n → g n ≡ f n) → IsStateOf k f d → IsStateOf k g d
@@ -191,20 +209,20 @@ module _ {D : Type 0} (state : D → DiskState) (is_told is_honest : D → Bool)
       pub done-struck : (k : Held D) (found : Bool) → Invalidated state is_told is_honest moment left_since h k (Ok found) → HasStruck state kinds s (down_seat choice ended k.disk)
       done-struck k found inv = elim (set-or-none (state h.disk).files (length kinds) h.kept.entries s.member.durable.snapshots state-there.snapshots) [
         | inl none ↦
-          let same : state k.disk ≡ state h.disk = inv.untouched (none-there none) in
-          let files : (state k.disk).files ≡ (state h.disk).files = ap (λ (t : DiskState). t.files) same in
-          whole-struck k.disk h.kept right mountable-there (inv.rests honest-there (m.rests honest down.settled)) (subst (EachStands h.kept) (sym files) each-stands)
-          (state-on h.kept (state h.disk).files (state k.disk).files (invalidates (length kinds) s.member).durable (λ g high. ap (λ (fs : ℕ → FileState). fs g) files) (none-state none))
-          (ap (λ (t : DiskState). t.burnt) same ∙ alive-there)
+            let same : state k.disk ≡ state h.disk = inv.untouched (none-there none) in
+            let files : (state k.disk).files ≡ (state h.disk).files = ap (λ (t : DiskState). t.files) same in
+            whole-struck k.disk h.kept right mountable-there (inv.rests honest-there (m.rests honest down.settled)) (subst (EachStands h.kept) (sym files) each-stands)
+            (state-on h.kept (state h.disk).files (state k.disk).files (invalidates (length kinds) s.member).durable (λ g high. ap (λ (fs : ℕ → FileState). fs g) files) (none-state none))
+            (ap (λ (t : DiskState). t.burnt) same ∙ alive-there)
         | inr some ↦
-          let i = some.0 in
-          let e = some.1 in
-          let latest = there i e some.2 in
-          let strike = inv.strike honest-there each-stands i e latest in
-          let well = inv.cut_well honest-there each-stands mountable-there.terms i e latest in
-          whole-struck k.disk (with_struck h.kept i e) right (mountable-struck i e some.2) (inv.rests honest-there (m.rests honest down.settled)) strike.done
-          (state-on (with_struck h.kept i e) (state h.disk).files (state k.disk).files (invalidates (length kinds) s.member).durable (λ g high. well.snapshots.files g high (λ no-file. no-file)) (struck-state i e some.2))
-          (strike.fuse alive-there).burnt
+            let i = some.0 in
+            let e = some.1 in
+            let latest = there i e some.2 in
+            let strike = inv.strike honest-there each-stands i e latest in
+            let well = inv.cut_well honest-there each-stands mountable-there.terms i e latest in
+            whole-struck k.disk (with_struck h.kept i e) right (mountable-struck i e some.2) (inv.rests honest-there (m.rests honest down.settled)) strike.done
+            (state-on (with_struck h.kept i e) (state h.disk).files (state k.disk).files (invalidates (length kinds) s.member).durable (λ g high. well.snapshots.files g high (λ no-file. no-file)) (struck-state i e some.2))
+            (strike.fuse alive-there).burnt
       ]
         where
           right : IsTrue (is_honest k.disk)
@@ -231,19 +249,19 @@ module _ {D : Type 0} (state : D → DiskState) (is_told is_honest : D → Bool)
         by-image : (i : ℕ) (e : RecEntry) → IsLatest (length kinds) h.kept.entries i e → ((g : ℕ) → 258 ≤ g → (state k.disk).files g ≡ (state h.disk).files g) → IsDurableOne h.kept (with_struck h.kept i e) image
             → HasStruck state kinds s (down_seat Keep ended d)
         by-image i e latest same (inl dur) =
-            before (kept-left choice (state k.disk) (state d) crash (sound k.disk right-there) h.kept (length kinds) (state h.disk).files s.member.durable same mountable-there.count mountable-there.held state-there dur)
+            before (kept-left choice (state k.disk) (state d) crash (sound k.disk right-there) h.kept (length kinds) (state h.disk).files s.member.durable same mountable-there.count mountable-there.held mountable-there.bases state-there dur)
         by-image i e latest same (inr dur) =
-            after (kept-left choice (state k.disk) (state d) crash (sound k.disk right-there) (with_struck h.kept i e) (length kinds) (state h.disk).files (invalidates (length kinds) s.member).durable same mountable-there.count mountable-there.held
+            after (kept-left choice (state k.disk) (state d) crash (sound k.disk right-there) (with_struck h.kept i e) (length kinds) (state h.disk).files (invalidates (length kinds) s.member).durable same mountable-there.count mountable-there.held (mountable-struck i e latest).bases
             (struck-state i e latest) dur)
 
         pub cut-struck : HasStruck state kinds s (down_seat Keep ended d)
         cut-struck = elim (set-or-none (state h.disk).files (length kinds) h.kept.entries s.member.durable.snapshots state-there.snapshots) [
           | inl none ↦
-            let files : (state k.disk).files ≡ (state h.disk).files = ap (λ (t : DiskState). t.files) (inv.untouched (none-there none)) in
-            let stands = each-stands image (subst (λ (fs : ℕ → FileState). IsImageOf fs image) files image-there) in
-            before (kept-left choice (state k.disk) (state d) crash (sound k.disk right-there) h.kept (length kinds) (state h.disk).files s.member.durable (λ g high. ap (λ (fs : ℕ → FileState). fs g) files) mountable-there.count mountable-there.held
-            state-there (durable_same h.kept image mountable-there.terms stands))
+              let files : (state k.disk).files ≡ (state h.disk).files = ap (λ (t : DiskState). t.files) (inv.untouched (none-there none)) in
+              let stands = each-stands image (subst (λ (fs : ℕ → FileState). IsImageOf fs image) files image-there) in
+              before (kept-left choice (state k.disk) (state d) crash (sound k.disk right-there) h.kept (length kinds) (state h.disk).files s.member.durable (λ g high. ap (λ (fs : ℕ → FileState). fs g) files) mountable-there.count mountable-there.held mountable-there.bases
+              state-there (durable_same h.kept image mountable-there.terms stands))
           | inr some ↦
-            let well = inv.cut_well honest-there each-stands mountable-there.terms some.0 some.1 (there some.0 some.1 some.2) in
-            by-image some.0 some.1 some.2 (λ g high. well.snapshots.files g high (λ no-file. no-file)) (well.each image image-there)
+              let well = inv.cut_well honest-there each-stands mountable-there.terms some.0 some.1 (there some.0 some.1 some.2) in
+              by-image some.0 some.1 some.2 (λ g high. well.snapshots.files g high (λ no-file. no-file)) (well.each image image-there)
         ]

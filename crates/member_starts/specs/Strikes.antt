@@ -1,5 +1,5 @@
 -- What is said of a stopped member's disk that is mounted, and of a strike on it, clause by clause.
-use Rattle.std.specs.Prelude.{◌≡◌, ◌↔◌, ℕ, Bool, IsTrue, IsFalse, List, length, Result, Ok, IfOk, OnOk, OnErr}
+use Rattle.std.specs.Prelude.{◌≡◌, ℕ, Bool, IsTrue, List, length, Result, Ok, OnOk}
 use Rattle.cl_base.specs.Disk.{DiskState, LeavesOnly, OthersStay}
 use Rattle.cl_base.specs.declared.disk.Choice.{Choice}
 use Rattle.cl_base.specs.declared.fault.MemberFault.{MemberFault}
