@@ -1,7 +1,7 @@
 use Rattle.std.proofs.Common.{◌≡◌, ℕ, List, [], ◌++◌, length, ap, ◌∙◌}
 use Rattle.member_disk.specs.Kept.{Kept}
 use Rattle.run_report.specs.Text.{set_lines}
-use Rattle.run_report.proofs.Telling.{adds_as}
+use Rattle.line_text.proofs.Telling.{adds_as}
 use Rattle.cluster_tool.specs.declared.line.Summary.{Summary}
 use Rattle.cluster_tool.specs.declared.line.Line.TheVariants as line
 use Rattle.cluster_tool.specs.Sets.{sets_of}
