@@ -1,7 +1,5 @@
 -- Sets in order are known by their terms and positions.
 use Rattle.std.specs.Prelude.{nat_lt, int_lt, if◌then◌else◌, ◌==◌, ◌&&◌, ◌||◌, ◌<ℤ◌}
-use Rattle.std.specs.List.{flat_map}
-use Rattle.std.specs.Fmt.{decimal, signed_decimal}
 use Rattle.std.proofs.Common.{◌≡◌, ◌⊎◌, inl, inr, ⊎_elim, ℕ, zero, suc, ℤ, pos, ◌<◌, Bool, true, false, List, [], ◌∷◌, ◌++◌, length, get_or, refl, sym, ap, ◌∙◌, subst, arith}
 use Rattle.std.proofs.lemmas.Bool.{and_parts, and_from, or_cases, both_ways, ltb-true, eqb-true, lt-ltb, eq-eqb}
 use Rattle.std.proofs.lemmas.Int.{ints}

@@ -5,7 +5,7 @@ use Rattle.line_text.proofs.Telling.{adds_as}
 use Rattle.cluster_tool.specs.declared.line.Summary.{Summary}
 use Rattle.cluster_tool.specs.declared.line.Line.TheVariants as line
 use Rattle.cluster_tool.specs.Sets.{sets_of}
-use Rattle.cluster_tool.specs.Text.{line_text, summary_with, describe_with}
+use Rattle.cluster_tool.specs.Text.{line_text, summary_with}
 use Rattle.cluster_tool.proofs.Sets.{sets_listed}
 use Rattle.cluster_tool.proofs.describe.tell.Goals as goal
 
