@@ -5,6 +5,7 @@ use Rattle.cl_base.specs.Faults.{HasMountCause}
 use Rattle.cl_base.specs.Disk.{FileState, DiskState}
 use Rattle.cl_base.specs.declared.fault.MemberFault.{MemberFault}
 use Rattle.cl_base.specs.declared.fault.MemberFault.TheVariants as fault
+use Rattle.node_state.specs.Node.{IsVersionTwo}
 use Rattle.member_disk.specs.Kept.{Kept, Held}
 use Rattle.cluster_tool.specs.declared.status.ToolStatus.{ToolStatus}
 use Rattle.cluster_tool.specs.declared.status.ToolStatus.TheVariants as status
@@ -14,6 +15,7 @@ use Rattle.cluster_tool.specs.Text.{verify_text}
 use Rattle.cluster_tool.specs.Words.{Tool, Listing, verify}
 use Rattle.cluster_tool.specs.Disks.{IsSeen, IsRead, IsStill, TurnedBy, FailsAt, EndsFor, EndsBoth, AllTell, AreSeen, AreRead, RoseAt, NoneOld, IsOldAt, NamesOld}
 use Rattle.cluster_tool.specs.Listed.{IsMounted, StandFor, StandBefore, Leaves, HoldsMore, Lists, services_in, Ends, EndsWith, Runs, Answers}
+use Rattle.cluster_tool.proofs.Reading.{untouched_then}
 use Rattle.cluster_tool.proofs.Sinks.{leaves_told}
 
 pub rose_before : (a b c : ℕ) → a ≤ b → Rose b c → Rose a c
@@ -30,14 +32,15 @@ quiet given meant (inr (inr is)) P one two three = subst P (sym is) three
 
 module _ {D : Type 0} (tells honest : D → Bool) (state : D → DiskState) (faults : D → ℕ) where
   pub seen_read : (a b : D) → IsSeen tells honest state faults a b → IsRead tells honest state faults a b
-  seen_read a b seen = record { same = seen.same; still = seen.still; later = seen.later; others = λ t g ne. seen.files t g }
+  seen_read a b seen = record { same = seen.same; still = seen.still; later = seen.later; others = λ t g ne. (seen.untouched t).files g; untouched = λ t two. seen.untouched t }
 
   pub read_seen : (a b c : D) → IsRead tells honest state faults a b → IsSeen tells honest state faults b c → IsRead tells honest state faults a c
   read_seen a b c read seen = record {
     same = seen.same ∙ read.same;
     still = seen.still ∙ read.still;
     later = omega (arith, read.later, seen.later);
-    others = λ t g ne. seen.files (subst IsTrue (sym read.same) t) g ∙ read.others t g ne;
+    others = λ t g ne. (seen.untouched (subst IsTrue (sym read.same) t)).files g ∙ read.others t g ne;
+    untouched = λ t two. untouched_then (state a) (state b) (state c) (read.untouched t two) (seen.untouched (subst IsTrue (sym read.same) t));
   }
 
   pub seen_seen : (a b c : D) → IsSeen tells honest state faults a b → IsSeen tells honest state faults b c → IsSeen tells honest state faults a c
@@ -45,7 +48,7 @@ module _ {D : Type 0} (tells honest : D → Bool) (state : D → DiskState) (fau
     same = two.same ∙ one.same;
     still = two.still ∙ one.still;
     later = omega (arith, one.later, two.later);
-    files = λ t g. two.files (subst IsTrue (sym one.same) t) g ∙ one.files t g;
+    untouched = λ t. untouched_then (state a) (state b) (state c) (one.untouched t) (two.untouched (subst IsTrue (sym one.same) t));
   }
 
   pub seen_then_read : (a b c : D) → IsSeen tells honest state faults a b → IsRead tells honest state faults b c → IsRead tells honest state faults a c
@@ -53,11 +56,13 @@ module _ {D : Type 0} (tells honest : D → Bool) (state : D → DiskState) (fau
     same = read.same ∙ seen.same;
     still = read.still ∙ seen.still;
     later = omega (arith, seen.later, read.later);
-    others = λ t g ne. read.others (subst IsTrue (sym seen.same) t) g ne ∙ seen.files t g;
+    others = λ t g ne. read.others (subst IsTrue (sym seen.same) t) g ne ∙ (seen.untouched t).files g;
+    untouched = λ t two. untouched_then (state a) (state b) (state c) (seen.untouched t)
+        (read.untouched (subst IsTrue (sym seen.same) t) (subst (λ (s : FileState). IsVersionTwo s.reads) (sym ((seen.untouched t).files 0)) two));
   }
 
   pub seen_none : (a : D) → IsSeen tells honest state faults a a
-  seen_none a = record { same = refl; still = refl; later = omega arith; files = λ t g. refl }
+  seen_none a = record { same = refl; still = refl; later = omega arith; untouched = λ t. record { files = λ g. refl; lets = refl; burnt = refl } }
 
   pub all_seen_none : (ds : List D) → AreSeen tells honest state faults ds ds
   all_seen_none [] = tt
@@ -97,7 +102,7 @@ module _ {D : Type 0} (tells honest : D → Bool) (state : D → DiskState) (fau
   all_tell_then (a ∷ xs) [] seen all = absurd seen
 
   same_files : (a b : D) → IsSeen tells honest state faults a b → IsTrue (tells a) → (state b).files ≡ (state a).files
-  same_files a b seen t = λ i g. seen.files t g i
+  same_files a b seen t = λ i g. (seen.untouched t).files g i
 
   pub all_files : (xs ys : List D) → AreSeen tells honest state faults xs ys → AllTell tells xs → map (λ d. (state d).files) ys ≡ map (λ d. (state d).files) xs
   all_files [] [] seen all = refl

@@ -4,3 +4,5 @@ pub mod Logs
 pub mod Reading
 pub mod Ending
 pub mod Equal
+pub mod Ordered
+pub mod Sets

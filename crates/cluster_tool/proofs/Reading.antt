@@ -8,7 +8,7 @@ use Rattle.cl_base.specs.Disk.{DiskState}
 use Rattle.cl_base.specs.declared.fault.MemberFault.TheVariants as fault
 use Rattle.member_disk.specs.Kept.{Held}
 use Rattle.cluster_tool.specs.Status.{status_of}
-use Rattle.cluster_tool.specs.Disks.{IsStill, Reads, EndsFor}
+use Rattle.cluster_tool.specs.Disks.{IsUntouched, IsStill, Reads, EndsFor}
 
 -- an entry with those before it and those behind it
 pub parted : {X : Type 0} (xs : List X) (i : ℕ) (d : X) → i < length xs → xs ≡ take i xs ++ get_or xs i d ∷ drop (i + 1) xs
@@ -25,9 +25,12 @@ pub only_err : {T : Type 0} (v : T) (r : Result T MemberFault) → IsOnly v r �
 only_err v (Ok w) only = tt
 only_err v (Err e) only = only
 
+pub untouched_then : (a b c : DiskState) → IsUntouched a b → IsUntouched b c → IsUntouched a c
+untouched_then a b c one two = record { files = λ g. two.files g ∙ one.files g; lets = two.lets ∙ one.lets; burnt = two.burnt ∙ one.burnt }
+
 module _ {D : Type 0} (tells honest : D → Bool) (state : D → DiskState) (faults : D → ℕ) where
   pub still_none : (a : Held D) → IsTrue a.whole → IsStill tells honest state faults a a
-  still_none a whole = record { whole = whole; kept = refl; disk = record { same = refl; still = refl; later = omega arith; files = λ t g. refl } }
+  still_none a whole = record { whole = whole; kept = refl; disk = record { same = refl; still = refl; later = omega arith; untouched = λ t. record { files = λ g. refl; lets = refl; burnt = refl } } }
 
   pub still_then : (a b c : Held D) → IsStill tells honest state faults a b → IsStill tells honest state faults b c → IsStill tells honest state faults a c
   still_then a b c one two = record {
@@ -37,7 +40,7 @@ module _ {D : Type 0} (tells honest : D → Bool) (state : D → DiskState) (fau
       same = two.disk.same ∙ one.disk.same;
       still = two.disk.still ∙ one.disk.still;
       later = omega (arith, one.disk.later, two.disk.later);
-      files = λ t g. two.disk.files (subst IsTrue (sym one.disk.same) t) g ∙ one.disk.files t g;
+      untouched = λ t. untouched_then (state a.disk) (state b.disk) (state c.disk) (one.disk.untouched t) (two.disk.untouched (subst IsTrue (sym one.disk.same) t));
     };
   }
 

@@ -5,6 +5,7 @@ use Rattle.cl_base.specs.Disk.{FileState, DiskState, OthersStay}
 use Rattle.cl_base.specs.Faults.{HasMountCause}
 use Rattle.cl_base.specs.declared.fault.MemberFault.{MemberFault}
 use Rattle.log_segment.specs.Looked.{IsNoDamage}
+use Rattle.node_state.specs.Node.{IsVersionTwo}
 use Rattle.member_disk.specs.Kept.{Held}
 use Rattle.cluster_tool.specs.declared.status.ToolStatus.{ToolStatus}
 use Rattle.cluster_tool.specs.declared.status.ToolStatus.TheVariants as status
@@ -17,12 +18,18 @@ IsOldNode bytes = (length bytes ≡ 32) × (slice_index bytes 17 ≢ 2)
 abbrev pub IsOld : (ℕ → FileState) → Type 0
 IsOld files = IsOldNode (files 0).reads
 
--- the same disk, of which some was read and no file was changed
+-- no changing call was made: the files are as they were, and what the fuse lets pass
+pub record IsUntouched (old new : DiskState) : Type 0 where
+  pub files : (g : ℕ) → new.files g ≡ old.files g
+  pub lets : new.lets ≡ old.lets
+  pub burnt : new.burnt ≡ old.burnt
+
+-- the same disk, of which some was read, without a changing call
 pub record IsSeen {D : Type 0} (tells honest : D → Bool) (state : D → DiskState) (faults : D → ℕ) (old new : D) : Type 0 where
   pub same : tells new ≡ tells old
   pub still : honest new ≡ honest old
   pub later : faults old ≤ faults new
-  pub files : IsTrue (tells old) → (g : ℕ) → (state new).files g ≡ (state old).files g
+  pub untouched : IsTrue (tells old) → IsUntouched (state old) (state new)
 
 -- a disk of this number isn't to be mounted: it is of version 1, where P holds, or failed, where R does, or there was no
 -- memory
@@ -35,12 +42,14 @@ TurnedBy P R number _ = ⊥
 abbrev pub TurnsAway : {D : Type 0} → (D → Bool) → (D → DiskState) → (D → ℕ) → ℕ → D → D → ToolStatus → Type 0
 TurnsAway tells state faults number old new given = TurnedBy (IsTrue (tells old) → IsOld (state old).files) (Rose (faults old) (faults new)) number given
 
--- the same disk, of which no file but perhaps that of the node state was changed
+-- the same disk, of which no file but perhaps that of the node state was changed; where that is of version 2 no changing
+-- call was made
 pub record IsRead {D : Type 0} (tells honest : D → Bool) (state : D → DiskState) (faults : D → ℕ) (old new : D) : Type 0 where
   pub same : tells new ≡ tells old
   pub still : honest new ≡ honest old
   pub later : faults old ≤ faults new
   pub others : IsTrue (tells old) → OthersStay 0 (state old).files (state new).files
+  pub untouched : IsTrue (tells old) → IsVersionTwo ((state old).files 0).reads → IsUntouched (state old) (state new)
 
 -- the same mounted disk, of which entries were read
 pub record IsStill {D : Type 0} (tells honest : D → Bool) (state : D → DiskState) (faults : D → ℕ) (old new : Held D) : Type 0 where

@@ -3,9 +3,7 @@ use Rattle.std.specs.Prelude.{◌≡◌, ◌⊎◌, ℕ, zero, suc, ◌≤◌, B
 use Rattle.cl_base.specs.Counts.{Rose}
 use Rattle.cl_base.specs.Disk.{FileState, DiskState}
 use Rattle.recording_log.specs.declared.entry.RecEntry.{RecEntry}
-use Rattle.recording_log.specs.declared.entry.SnapshotAt.{SnapshotAt}
 use Rattle.recording_log.specs.Entries.{Holds}
-use Rattle.recording_log.specs.Listed.{AreSets}
 use Rattle.log_segment.specs.Held.{IsHeld}
 use Rattle.member_disk.specs.Kept.{Kept, Held, ReadsLike}
 use Rattle.line_text.specs.Written.{IsFront}
@@ -31,17 +29,11 @@ pub record IsMounted {D : Type 0} (tells honest : D → Bool) (state : D → Dis
   pub disk : IsRead tells honest state faults old new.disk
   pub stands : IsTrue (tells old) → StandFor services (state old).files new.kept
 
--- what is kept, with its valid sets of snapshots
-pub record IsDescribed (kept : Kept) (text : List ℕ) : Type 0 where
-  pub sets : List SnapshotAt
-  pub are : AreSets kept.services kept.entries sets
-  pub is : text ≡ describe_text kept sets
-
 -- a member with so many services: what its files stand for
 pub record IsDescription (services : ℕ) (files : ℕ → FileState) (text : List ℕ) : Type 0 where
   pub kept : Kept
   pub stands : StandFor services files kept
-  pub is : IsDescribed kept text
+  pub is : text ≡ describe_text kept
 
 -- the entries of file 1, valid or not
 pub record IsRecording (files : ℕ → FileState) (text : List ℕ) : Type 0 where

@@ -11,6 +11,7 @@ use Rattle.member_disk.specs.Kept.{Kept}
 use Rattle.line_text.specs.Pieces.{newline}
 use Rattle.run_report.specs.Text.{set_line, set_lines}
 use Rattle.cluster_tool.specs.Compared.{compared}
+use Rattle.cluster_tool.specs.Sets.{sets_of}
 use Rattle.cluster_tool.specs.declared.compare.Outcome.{Outcome}
 use Rattle.cluster_tool.specs.declared.compare.Outcome.TheVariants as outcome
 use Rattle.cluster_tool.specs.declared.compare.Comparison.{Comparison}
@@ -80,9 +81,9 @@ summary_with kept terms sets = record { candidate = kept.node.term; entries = le
 abbrev pub describe_with : Kept → ℕ → List SnapshotAt → List ℕ
 describe_with kept terms sets = line_text (line.Summary (summary_with kept terms (length sets))) ++ set_lines sets ++ line_text line.Done
 
--- what is kept, with its valid sets
-abbrev pub describe_text : Kept → List SnapshotAt → List ℕ
-describe_text kept sets = describe_with kept (length (new_terms 0 kept.log)) sets
+-- a member: what its files stand for, and its valid sets
+abbrev pub describe_text : Kept → List ℕ
+describe_text kept = describe_with kept (length (new_terms 0 kept.log)) (sets_of kept.services kept.entries)
 
 abbrev pub recorded_lines : List RecEntry → List ℕ
 recorded_lines entries = flat_map recorded_line entries

@@ -3,14 +3,13 @@ ghost use Rattle.std.specs.Prelude.{◌≡◌, ◌<◌, ◌≤◌, ◌++◌, [],
 ghost use Rattle.cl_base.specs.declared.entry.Entry.{Entry as OneEntry};
 ghost use Rattle.entry_log.specs.Log.{place};
 ghost use Rattle.log_segment.specs.Held.{new_terms};
-ghost use Rattle.recording_log.specs.declared.entry.SnapshotAt.{SnapshotAt as OneSet};
-ghost use Rattle.recording_log.specs.Listed.{AreSets};
 ghost use Rattle.line_text.specs.Written.{Adds};
 ghost use Rattle.run_report.specs.Text.{set_lines};
 ghost use Rattle.cluster_tool.specs.Words.{describe};
-ghost use Rattle.cluster_tool.specs.Text.{line_text, begun, summary_with, describe_with};
+ghost use Rattle.cluster_tool.specs.Text.{line_text, begun, summary_with, describe_with, describe_text};
+ghost use Rattle.cluster_tool.specs.Sets.{sets_of};
 ghost use Rattle.cluster_tool.specs.Disks.{Reads, IsStill, EndsFor};
-ghost use Rattle.cluster_tool.specs.Listed.{Ends, Leaves, HoldsMore, IsDescribed};
+ghost use Rattle.cluster_tool.specs.Listed.{Ends, Leaves, HoldsMore};
 
 use crate::ToolStatus;
 use crate::line::{Line, Summary};
@@ -97,7 +96,7 @@ fn write<O: Sink>(
 
 /// Writes the listing of what is kept, with so many entries that begin a leadership term.
 fn tell<O: Sink>(alloc: Global, sink: &mut O, durable: &Durable, terms: u64) -> Result<(), Trouble>
-    ensures { (sets : List OneSet) × AreSets durable.now.services durable.now.entries sets × Adds O.tells O.held O.fault_count sink.old sink.new [] [] (describe_with durable.now terms sets) result }
+    ensures { Adds O.tells O.held O.fault_count sink.old sink.new [] [] (describe_with durable.now terms (sets_of durable.now.services durable.now.entries)) result }
 {
     let sets = durable.sets();
     let summary = summary_of(durable, terms, sets.len() as u64);
@@ -109,7 +108,7 @@ fn describe<O: Sink, D: Disk>(alloc: Global, sink: &mut O, member: &mut MemberDi
     requires { IsTrue member.old.whole }
     ensures still { IsStill D.tells D.is_honest D.state D.fault_count member.old member.new }
     ensures ends { EndsFor D.tells D.fault_count 0 member.old.disk member.new.disk result }
-    ensures done { IsTrue (O.tells sink.old) → IsTrue (D.tells member.old.disk) → result ≡ ToolStatus.Done → HoldsMore (IsDescribed member.old.kept) (O.held sink.old) (O.held sink.new) }
+    ensures done { IsTrue (O.tells sink.old) → IsTrue (D.tells member.old.disk) → result ≡ ToolStatus.Done → HoldsMore (λ text. text ≡ describe_text member.old.kept) (O.held sink.old) (O.held sink.new) }
     ensures sink { Leaves O.tells O.held O.fault_count sink.old sink.new result }
 {
     match count_terms(member) {

@@ -159,7 +159,8 @@ pub fn tool_main<O: Sink, D: Disk + Drop>(
     ensures sink_later { O.fault_count sink.old ≤ O.fault_count sink.new }
     ensures sink_tells { O.tells sink.new ≡ O.tells sink.old }
 
-    // The list has the same disks in the same order. Of no disk a file but that of the node state is changed.
+    // The list has the same disks in the same order. Of no disk a file but that of the node state is changed, and on one
+    // whose node state is of version 2 no changing call is made.
     ensures disks { AreRead D.tells D.is_honest D.state D.fault_count disks.old.items disks.new.items }
 {
     run(alloc, words, sink, disks)

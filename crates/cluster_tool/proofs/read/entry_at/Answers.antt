@@ -10,7 +10,7 @@ returns-clause-reads g c =
     let i = c.args.index in
     let below = c.requires.index in
     record {
-      still = record { whole = e.whole; kept = e.kept; disk = record { same = e.tells; still = e.honest; later = e.cause.later; files = λ t. (e.looks t).files } };
+      still = record { whole = e.whole; kept = e.kept; disk = record { same = e.tells; still = e.honest; later = e.cause.later; untouched = λ t. let l = e.looks t in record { files = l.files; lets = l.lets; burnt = l.burnt } } };
       cause = e.cause;
       sound = λ t. only_err (get_or log i no_entry) c.read.result (e.exact t (take i log) (drop (i + 1) log) (get_or log i no_entry) (parted log i no_entry below) (front_count log i below));
     }
