@@ -126,12 +126,7 @@ impl<D: Disk + Drop> Seat<D> {
     }
 
     /// The member stops: all that isn't on its disk is gone, and a crash leaves of the disk what the choice says.
-    fn crash(
-        &mut self,
-        alloc: Global,
-        stopped: Stopped<D>,
-        choice: Choice,
-    ) -> Result<(), NoMemory>
+    fn crash(&mut self, alloc: Global, stopped: Stopped<D>, choice: Choice) -> Result<(), NoMemory>
         ensures { OnOk result (Crashed D.state D.tells D.is_honest choice stopped.member.seen self.old self.new) }
     {
         let kept = stopped.keep_inputs(alloc, self.run, &mut self.ended);
