@@ -25,10 +25,10 @@ pub kept_more : {D : Type 0} (u : UpSeen D) (n : ℕ) (xs ys : List ServiceRun) 
     → map ended_seen ys ≡ old ++ take (n + 1) (run_ended u false)
 kept_more u n xs ys r old push lt have from inputs =
     elim ((slice_get_cases u.lending.kept n).1) as (λ _. map ended_seen ys ≡ old ++ take (n + 1) (run_ended u false)) [
-      inl some ↦
-        let c = some.0 in
-        let seen : ended_seen r ≡ ended_in u.base c = λ i. record { from = from i; inputs = (inputs ∙ ap inputs_of some.2) i } in
-        ap (map ended_seen) push ∙ map-append ended_seen xs (r ∷ []) ∙ ap (λ l. l ++ ended_seen r ∷ []) have ∙ append_assoc old (take n (run_ended u false)) (ended_seen r ∷ [])
-        ∙ ap (λ l. old ++ l) (ap (λ e. take n (run_ended u false) ++ e ∷ []) seen ∙ sym (next_of u.base n u.lending.kept c lt some.3))
-    | inr none ↦ absurd (let low = none.0 in omega arith)
+      | inl some ↦
+          let c = some.0 in
+          let seen : ended_seen r ≡ ended_in u.base c = λ i. record { from = from i; inputs = (inputs ∙ ap inputs_of some.2) i } in
+          ap (map ended_seen) push ∙ map-append ended_seen xs (r ∷ []) ∙ ap (λ l. l ++ ended_seen r ∷ []) have ∙ append_assoc old (take n (run_ended u false)) (ended_seen r ∷ [])
+          ∙ ap (λ l. old ++ l) (ap (λ e. take n (run_ended u false) ++ e ∷ []) seen ∙ sym (next_of u.base n u.lending.kept c lt some.3))
+      | inr none ↦ absurd (let low = none.0 in omega arith)
     ]

@@ -220,10 +220,7 @@ impl<D: Disk> Running<D> {
     }
 
     /// The member, which stops. A phase that goes on is dropped.
-    pub(crate) fn stop<R: Threads + Wait + Copy + Send + Sync + 'static>(
-        self,
-        rt: &R,
-    ) -> Stopped<D>
+    pub(crate) fn stop<R: Threads + Wait + Copy + Send + Sync + 'static>(self, rt: &R) -> Stopped<D>
         ensures { self.going ≡ false → result.member.seen ≡ self.member }
     {
         match self.state {

@@ -3,7 +3,7 @@ ghost use Rattle.std.specs.Prelude.{◌≡◌, ◌≤◌, ◌^◌, [], Bool, tru
 ghost use Rattle.run_orders.specs.Stands.{Down, Up, UpSeen};
 ghost use Rattle.run_seats.specs.Seats.{ended_seen};
 ghost use Rattle.run_seats.specs.Failed.{NotMemory};
-ghost use Rattle.run_seats.specs.Steps.{Crashed, CrashedTo, SeatAsked, SeatPhased};
+ghost use Rattle.run_seats.specs.Steps.{Crashed, CrashedTo};
 
 use crate::asking::{Asking, Call};
 use crate::ended::{ServiceRun, ended_run};
@@ -126,12 +126,7 @@ impl<D: Disk + Drop> Seat<D> {
     }
 
     /// The member stops: all that isn't on its disk is gone, and a crash leaves of the disk what the choice says.
-    fn crash(
-        &mut self,
-        alloc: Global,
-        stopped: Stopped<D>,
-        choice: Choice,
-    ) -> Result<(), NoMemory>
+    fn crash(&mut self, alloc: Global, stopped: Stopped<D>, choice: Choice) -> Result<(), NoMemory>
         ensures { OnOk result (Crashed D.state D.tells D.is_honest choice stopped.member.seen self.old self.new) }
     {
         let kept = stopped.keep_inputs(alloc, self.run, &mut self.ended);
@@ -222,8 +217,7 @@ impl<D: Disk + Drop> Seat<D> {
         now: u64,
     ) -> Result<Took, NoMemory>
         requires { now ≤ 2 ^ 60 }
-        ensures asked { (u : UpSeen D) → self.old.home ≡ Some (Up u false) → IfOk result (λ took. SeatAsked D.state D.tells D.is_honest now asking.entry u self.old self.new took outside.old outside.new) }
-        ensures down { (disk : D) → self.old.home ≡ Some (Down disk) → (result ≡ Ok Took.Down) × (self.new ≡ self.old) × (outside.new ≡ outside.old) }
+        ensures { (disk : D) → self.old.home ≡ Some (Down disk) → (result ≡ Ok Took.Down) × (self.new ≡ self.old) × (outside.new ≡ outside.old) }
     {
         let Some(running) = self.take_running() else {
             return Ok(Took::Down);
@@ -272,8 +266,7 @@ impl<D: Disk + Drop> Seat<D> {
         rt: &R,
         outside: &mut Outside,
     ) -> Result<Took, NoMemory>
-        ensures phased { (u : UpSeen D) → self.old.home ≡ Some (Up u false) → IfOk result (λ took. SeatPhased D.state D.tells D.is_honest u self.old self.new took outside.old outside.new) }
-        ensures down { (disk : D) → self.old.home ≡ Some (Down disk) → (result ≡ Ok Took.Down) × (self.new ≡ self.old) × (outside.new ≡ outside.old) }
+        ensures { (disk : D) → self.old.home ≡ Some (Down disk) → (result ≡ Ok Took.Down) × (self.new ≡ self.old) × (outside.new ≡ outside.old) }
     {
         let Some(running) = self.take_running() else {
             return Ok(Took::Down);
