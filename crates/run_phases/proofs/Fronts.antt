@@ -139,3 +139,14 @@ ahead_same log a b same is = subst (λ (m : ModuleHeld). m.ahead.entries ≡ dro
 pub due_all : (log : List Entry) (first commit : ℕ) (cs : List Held) → first ≡ commit → Each (IsAt first) cs → Each (IsWithin log commit) cs → Each (HasAll log commit) cs
 due_all log first commit [] same at w = tt
 due_all log first commit (c ∷ cs) same at w = (record { within = w.0; all = at.0.place ∙ same; whole = at.0.whole }, due_all log first commit cs same at.1 w.1)
+
+-- ---- no phase runs any more
+
+pub gone_log : (log : List Entry) (t : Stage) (feeds : List Fed) → t.lending.lent ≡ [] → t.lending.begun ≡ [] → feeds ≡ [] → FeedsLog log t feeds
+gone_log log t feeds lent begun none =
+    let F : List Fed × List Fed → Type 0 = λ z. Each2 (FeedsFrom log t.commit) z.0 z.1 in
+    record { lent = subst (Each (IsWithin log t.commit)) (sym lent) tt; fed = subst F (λ i. (sym begun i, sym none i)) tt }
+
+pub each_append : {A : Type 0} (P : A → Type 0) (xs ys : List A) → Each P xs → Each P ys → Each P (xs ++ ys)
+each_append P [] ys h k = k
+each_append P (x ∷ xs) ys h k = (h.0, each_append P xs ys h.1 k)

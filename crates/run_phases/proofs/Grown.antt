@@ -87,3 +87,31 @@ came_grown first cs ls ds ss is g l r = subst (Each2 Grew cs) (sym is) (all_grew
 
 pub forgot_grown : (cs ds : List Held) → ds ≡ map forgetting cs → Each2 Grew cs ds
 forgot_grown cs ds is = subst (Each2 Grew cs) (sym is) (all_grew cs (map forgetting cs) (all_none (map forgetting cs)))
+
+-- ---- containers that are kept and those that are lent
+
+pub all_twice : (first : ℕ) (cs ds es : List Held) → Each2 GoesOn cs ds → Each (IsLent first) ds → Each2 GoesOn ds es → Each2 GoesOn cs es
+all_twice first [] [] [] g l k = tt
+all_twice first [] [] (e ∷ es) g l k = absurd k
+all_twice first [] (d ∷ ds) es g l k = absurd g
+all_twice first (c ∷ cs) [] es g l k = absurd g
+all_twice first (c ∷ cs) (d ∷ ds) [] g l k = absurd k
+all_twice first (c ∷ cs) (d ∷ ds) (e ∷ es) g l k = (goes_twice c d e l.0.ready.1 g.0 k.0, all_twice first cs ds es g.1 l.1 k.1)
+
+-- those that are lent went on behind those that are kept
+pub spliced : (first : ℕ) (cs ks ls bs : List Held) → Each2 GoesOn cs (ks ++ ls) → Each (IsLent first) ls → Each2 GoesOn ls bs → Each2 GoesOn cs (ks ++ bs)
+spliced first cs [] ls bs g l k = all_twice first cs ls bs g l k
+spliced first [] (x ∷ ks) ls bs g l k = absurd g
+spliced first (c ∷ cs) (x ∷ ks) ls bs g l k = (g.0, spliced first cs ks ls bs g.1 l k)
+
+-- none is kept
+pub none_kept : (cs : List Held) (l : Lending) → l.kept ≡ [] → Each2 GoesOn cs l.lent → Each2 GoesOn cs (l.kept ++ l.lent)
+none_kept cs l none g = subst (λ (k : List Held). Each2 GoesOn cs (k ++ l.lent)) (sym none) g
+
+-- none is lent
+pub none_lent : (cs : List Held) (l : Lending) → l.lent ≡ [] → Each2 GoesOn cs l.kept → Each2 GoesOn cs (l.kept ++ l.lent)
+none_lent cs l none g = subst (λ (k : List Held). Each2 GoesOn cs (l.kept ++ k)) (sym none) (subst (Each2 GoesOn cs) (sym (append-nil l.kept)) g)
+
+-- the containers that were lent came back
+pub lent_back : (first : ℕ) (ls ds : List Held) (ss : List Served) → ds ≡ containers ss → Each (IsLent first) ls → Each2 RanFor ls ss → Each2 GoesOn ls ds
+lent_back first ls ds ss is l r = subst (Each2 GoesOn ls) (sym is) (all_ran first ls ls ss (all_none ls) l r)

@@ -5,3 +5,4 @@ pub mod Grown
 pub mod Fronts
 pub mod Short
 pub mod Results
+pub mod Stays
