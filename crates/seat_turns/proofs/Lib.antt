@@ -1,4 +1,0 @@
-pub mod Acts
-pub mod Asks
-pub mod Packets
-pub mod Stops
